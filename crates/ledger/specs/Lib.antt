@@ -1,0 +1,9 @@
+pub mod Lists
+pub mod Diagrams
+pub mod Ledger
+pub mod Laid
+pub mod Operations
+pub mod Ordered
+pub mod Gather
+pub mod Dispatch
+pub mod Visits
