@@ -39,4 +39,3 @@ module _ {S : Type 0} (before : S → S → Bool) (order : Order before) where
         good = omega (arith, number-good before order (lay before (lists vs) t) t (lay-knows before order (lists vs) t));
         is = ap (λ r. list-in r (down-number before vs t)) rows ∙ list-number before order (lay before (lists vs) t) t (lay-knows before order (lists vs) t);
       }
-
