@@ -1,0 +1,18 @@
+-- The number of each refusal, and what it carries.
+use Prim.Native.Nat.{ℕ}
+use Rattle.store.specs.declared.fault.Fault.{Fault}
+use Rattle.store.specs.declared.fault.Fault.the-variants.{NoSuchList, CodeTooLong, NoSuchRule, ShortOutput, LittleWork, TooManyCodes, NoSuchCode, ShelfFull}
+use Rattle.store.specs.declared.fault.Refusal.{Refusal}
+
+abbrev pub plain : ℕ → Refusal
+plain n = record { number = n; detail = 0 }
+
+abbrev pub refusal : Fault → Refusal
+refusal (NoSuchList place) = record { number = 2; detail = place }
+refusal CodeTooLong = plain 4
+refusal NoSuchRule = plain 5
+refusal ShortOutput = plain 8
+refusal LittleWork = plain 3
+refusal TooManyCodes = plain 6
+refusal NoSuchCode = plain 7
+refusal ShelfFull = plain 9

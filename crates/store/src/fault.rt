@@ -1,0 +1,48 @@
+// Why a call of the store is refused.
+ghost use mathlib.Core.Path.{_≡_};
+ghost use Rattle.store.specs.Refusals.{refusal};
+
+#[derive(Clone, Copy, Debug, PartialEq, Eq)]
+pub enum Fault {
+    // No list has this number: which one of the call's list numbers, counted from 0.
+    NoSuchList { place: usize },
+    // The code is longer than 64 symbols.
+    CodeTooLong,
+    // The rule is above 7.
+    NoSuchRule,
+    // The output has too little room.
+    ShortOutput,
+    // There is too little work space.
+    LittleWork,
+    // The list has 2^64 codes or more.
+    TooManyCodes,
+    // The list has no code with so many before it.
+    NoSuchCode,
+    // The shelf has too few places left.
+    ShelfFull,
+}
+
+// A refusal as it is told: its number, and what it carries.
+#[derive(Clone, Copy, Debug, PartialEq, Eq)]
+pub struct Refusal {
+    pub number: u8,
+    pub detail: usize,
+}
+
+impl Fault {
+    pub fn refusal(self) -> Refusal
+        ensures { λ r. ⌜ r ≡ refusal self ⌝ }
+    {
+        let (number, detail) = match self {
+            Fault::NoSuchList { place } => (2, place),
+            Fault::CodeTooLong => (4, 0),
+            Fault::NoSuchRule => (5, 0),
+            Fault::ShortOutput => (8, 0),
+            Fault::LittleWork => (3, 0),
+            Fault::TooManyCodes => (6, 0),
+            Fault::NoSuchCode => (7, 0),
+            Fault::ShelfFull => (9, 0),
+        };
+        Refusal { number, detail }
+    }
+}

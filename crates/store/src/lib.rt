@@ -1,0 +1,2 @@
+// The store of finds lists.
+pub mod fault;
