@@ -67,7 +67,7 @@ module _ {S : Type 0} (before : S → S → Bool) (order : Order before) where
       elim (same before x t) as (λ b. mathlib.Core.Bool.cond b true (listed before xs t) ≡ true) [ true ↦ refl | false ↦ in-held t xs m ]
 
   -- what laying down adds are parts
-  lay-parts : (row : List (Codes S)) (t u : Codes S) → listed before (lay before row t) u ≡ true → (listed before row u ≡ true) ⊎ Part t u
+  pub lay-parts : (row : List (Codes S)) (t u : Codes S) → listed before (lay before row t) u ≡ true → (listed before row u ≡ true) ⊎ Part t u
   lay-parts row none u h = inl h
   lay-parts row blank u h = inl h
   lay-parts row (begun a z o) u h = by (both-ways (listed before row (begun a z o))) (lay-parts row z u) (lay-parts (lay before row z) o u)

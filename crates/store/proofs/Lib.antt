@@ -1,0 +1,2 @@
+pub mod Shortness
+pub mod Standing

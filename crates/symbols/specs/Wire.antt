@@ -20,3 +20,10 @@ pub record WireLaws {S : Type 0} (kind width : ℕ) (bytes : S → List ℕ) (re
   pub back : (s : S) → reads (bytes s) ≡ Ok s
   -- bytes that read as a symbol are that symbol's own
   pub own : (bs : List ℕ) (s : S) → length bs ≡ width → Bytes bs → reads bs ≡ Ok s → bytes s ≡ bs
+
+-- what a kind of symbols that travel tells: its number, its width, the bytes of a symbol, and what bytes read as
+pub record Travel (S : Type 0) : Type 0 where
+  pub kind : ℕ
+  pub width : ℕ
+  pub bytes : S → List ℕ
+  pub reads : List ℕ → Result S SymbolFault

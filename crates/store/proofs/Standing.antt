@@ -1,0 +1,128 @@
+-- What every run keeps: sound vertices within the capacity, codes within 64 symbols, and a right recall table.
+use mathlib.Core.Path.{_≡_, refl, sym, ap, ap₂, subst, subst⁻¹, _∙_}
+use mathlib.Core.Bool.{Bool, true, false}
+use mathlib.Core.List.{List, [], _∷_, _++_, map, List·Memᴰ}
+use mathlib.Core.Logic.{_⊎_, inl, inr, _↔_}
+use Prim.Native.Nat.{ℕ, zero, suc, _+_, _*_, _≤_, _<_}
+use native.Mathlib.Omega.{arith}
+use lib.ListN.{length, getD, length-append}
+use lib.Dec.{ltb}
+use Rattle.std.proofs.shelf.Tests.{ltb-false}
+use Rattle.std.specs.declared.option.Option.{Option}
+use Rattle.std.specs.declared.option.Option.the-variants.{Some, None}
+use Rattle.std.specs.declared.result.Result.{Result}
+use Rattle.std.specs.declared.result.Result.the-variants.{Ok, Err}
+use Rattle.symbols.specs.Order.{Order}
+use Rattle.symbols.specs.Wire.{Travel}
+use Rattle.ledger.specs.Lists.{Codes, none, blank, begun, Member, Proper}
+use Rattle.ledger.specs.declared.Vertex.{Vertex}
+use Rattle.ledger.specs.Diagrams.{Good, Sound, SameCodes, Reached, Counts, IsDiagram}
+use Rattle.ledger.specs.Ledger.{lay, list-in, lists, codes, down}
+use Rattle.ledger.specs.Operations.{has, takes, join, single, added, removed}
+use Rattle.ledger.specs.Gather.{gather, renumber, Keeps, Marked}
+use Rattle.ledger.proofs.Rows.{lay-adds, list-front, both-ways, lay-ledger}
+use Rattle.ledger.proofs.Reading.{none-some, true-false}
+use Rattle.ledger.proofs.Drawn.{Pictured, pictured, lists-vertices-of, codes-proper}
+use Rattle.ledger.proofs.Joins.{join-right}
+use Rattle.ledger.proofs.Orders.{has-in, in-has}
+use Rattle.ledger.proofs.Finite.{single-proper, single-in}
+use Rattle.ledger.proofs.Downs.{down-sound}
+use Rattle.memory.specs.declared.recall.Question.{Question}
+use Rattle.memory.specs.declared.work.Place.{Place}
+use Rattle.store.specs.declared.fault.Fault.{Fault}
+use Rattle.store.specs.State.{State, Forgotten, check, check-lists, check-code, check-work, Checked}
+use Rattle.store.specs.Calls.{Adds, Removes, Joins, LaidDown, JoinedDown, Answers, change-checks}
+use Rattle.store.proofs.Shortness.{Short, AllShort, short-none, short-blank, down-short}
+
+-- every entry of the recall table is right of the vertices
+abbrev pub Right : {S : Type 0} → (S → S → Bool) → ℕ → List (Vertex S) → (Question → Option ℕ) → Type 0
+Right before capacity vs table = (q : Question) (n : ℕ) → table q ≡ Some n → Answers before capacity vs q n
+
+pub record Standing {S : Type 0} (before : S → S → Bool) (capacity : ℕ) (s : State S) : Type 0 where
+  pub sound : Sound before (s .vertices)
+  pub short : AllShort (s .vertices)
+  pub right : Right before capacity (s .vertices) (s .table)
+  pub few : length (s .vertices) ≤ capacity
+  pub small : capacity ≤ 1000000
+
+-- a check that passes
+pub passes : (fails : Bool) (fault : Fault) (behind : Option Fault) → check fails fault behind ≡ None → (fails ≡ false) × (behind ≡ None)
+passes true fault behind e = absurd (none-some e refl)
+passes false fault behind e = (refl, e)
+
+pub good-list : {S : Type 0} (vs : List (Vertex S)) (n : ℕ) → ltb (length vs + 1) n ≡ false → Good vs n
+good-list vs n e = ltb-false (length vs + 1) n e
+
+module _ {S : Type 0} (before : S → S → Bool) (order : Order before) (capacity : ℕ) where
+  -- laying down keeps the codes of old numbers
+  module _ (vs : List (Vertex S)) (t : Codes S) (sound : Sound before vs) (proper : Proper before t) where
+    P : Pictured before order vs
+    P = pictured before order vs sound
+
+    rows : lists (down before vs t) ≡ lay before (lists vs) t
+    rows = lists-vertices-of before order (lay-ledger before order (lists vs) t (P .ledger) proper)
+
+    pub down-long : length (down before vs t) ≡ length (lay before (lists vs) t)
+    down-long = sym (pictured before order (down before vs t) (down-sound before order vs t sound proper) .long) ∙ ap length rows
+
+    pub down-grows : length vs ≤ length (down before vs t)
+    down-grows =
+        let a = lay-adds before order (lists vs) t in
+        omega (arith, down-long, ap length (a .1), length-append (lists vs) (a .0), P .long)
+
+    pub down-codes : (n : ℕ) → Good vs n → codes (down before vs t) n ≡ codes vs n
+    down-codes n good =
+        let a = lay-adds before order (lists vs) t in
+        ap (λ r. list-in r n) (rows ∙ a .1) ∙ list-front before order (lists vs) (a .0) n (omega (arith, P .long))
+
+    pub answers-stay : (q : Question) (n : ℕ) → Answers before capacity vs q n → Answers before capacity (down before vs t) q n
+    answers-stay q n a =
+        let g = down-grows in
+        let first-good = a .0 in
+        let second-good = a .1 in
+        let answer-good = a .2 in (
+          omega arith,
+          omega arith,
+          omega arith,
+          down-codes n (a .2) ∙ a .3 ∙ ap₂ (join before (takes (q .rule))) (sym (down-codes (q .first) (a .0))) (sym (down-codes (q .second) (a .1))),
+        )
+
+  -- members of a join are members of one of the two
+  join-short : (f : Bool → Bool → Bool) → f false false ≡ false → (t u : Codes S) → Proper before t → Proper before u → Short t → Short u → Short (join before f t u)
+  join-short f neither t u pt pu st su c m =
+      by (both-ways (has before t c)) (both-ways (has before u c))
+    where
+      held : has before (join before f t u) c ≡ true
+      held = in-has before order (join before f t u) (join-right before order f neither t u pt pu .proper) c m
+
+      by : (has before t c ≡ true) ⊎ (has before t c ≡ false) → (has before u c ≡ true) ⊎ (has before u c ≡ false) → length c ≤ 64
+      by (inl h) k = st c (has-in before order t c h)
+      by (inr h) (inl k) = su c (has-in before order u c k)
+      by (inr h) (inr k) = absurd (true-false held (join-right before order f neither t u pt pu .right c ∙ ap₂ f h k ∙ neither))
+
+  single-short : (code : List S) → length code ≤ 64 → Short (single code)
+  single-short code h c m = rw (single-in code c m) h
+
+  pub join-proper : (f : Bool → Bool → Bool) → f false false ≡ false → (t u : Codes S) → Proper before t → Proper before u → Proper before (join before f t u)
+  join-proper f neither t u pt pu = join-right before order f neither t u pt pu .proper
+
+  -- a list that is laid down, where the table stays or is forgotten
+  laid : (s s′ : State S) (t : Codes S) (r : Result ℕ Fault) → Standing before capacity s → Proper before t → Short t → LaidDown before capacity s t r s′ → Standing before capacity s′
+  laid s s′ t (Ok n) st proper short l =
+      let e = l .0 .1 in
+      record {
+        sound = rw e (down-sound before order (s .vertices) t (st .sound) proper);
+        short = subst⁻¹ AllShort e (down-short before order (s .vertices) t (st .sound) proper (st .short) short);
+        right = λ q k h. subst⁻¹ (λ (vs : List (Vertex S)). Answers before capacity vs q k) e (answers-stay (s .vertices) t (st .sound) proper q k (st .right q k (sym (ap (λ (f : Question → Option ℕ). f q) (l .1)) ∙ h)));
+        few = omega (arith, ap length e, down-long (s .vertices) t (st .sound) proper, l .0 .0);
+        small = st .small;
+      }
+  laid s s′ t (Err fault) st proper short l =
+      let e = l .1 .1 in
+      record {
+        sound = rw e (st .sound);
+        short = subst⁻¹ AllShort e (st .short);
+        right = λ q k h. absurd (none-some (l .2 q) h);
+        few = omega (arith, ap length e, st .few);
+        small = st .small;
+      }
