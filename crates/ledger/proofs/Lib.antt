@@ -18,3 +18,4 @@ pub mod Visiting
 pub mod Attaining
 pub mod Forming
 pub mod Downs
+pub mod Settling
