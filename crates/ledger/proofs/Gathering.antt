@@ -155,7 +155,7 @@ module _ {S : Type 0} (before : S → S → Bool) (order : Order before) where
       by false (inl e) m below = absurd (true-false (rw e at m) refl)
       by false (inr e) m below = rw e (below (rw e at h) (rw e at m))
 
-  kept-held : (ms : List Bool) (row : List (Codes S)) (t : Codes S) → listed before (keep ms row) t ≡ true → listed before row t ≡ true
+  pub kept-held : (ms : List Bool) (row : List (Codes S)) (t : Codes S) → listed before (keep ms row) t ≡ true → listed before row t ≡ true
   kept-held [] row t h = absurd (true-false h refl)
   kept-held (b ∷ ms) [] t h = absurd (true-false h refl)
   kept-held (b ∷ ms) (x ∷ row) t h = by b (both-ways (same before x t)) h (kept-held ms row t)

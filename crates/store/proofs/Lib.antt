@@ -1,2 +1,4 @@
 pub mod Shortness
 pub mod Standing
+pub mod Clearing
+pub mod Runs

@@ -41,6 +41,12 @@ part-short {S} (begun a z o) u (inr (inr p)) s = part-short o u p inner
     inner c m = let h : length (a ∷ c) ≤ 64 = s (a ∷ c) (inr (c, refl, m)) in omega arith
 
 module _ {S : Type 0} (before : S → S → Bool) (order : Order before) where
+  pub listed-short : (vs : List (Vertex S)) → Sound before vs → AllShort vs → (u : Codes S) → listed before (lists vs) u ≡ true → Short u
+  listed-short vs sound old u h =
+      let known = known-held before order (lists vs) u h in
+      let good = number-good before order (lists vs) u known in
+      subst Short (list-number before order (lists vs) u known) (old (number before (lists vs) u) (omega (arith, pictured before order vs sound .long)))
+
   pub down-short : (vs : List (Vertex S)) (t : Codes S) → Sound before vs → Proper before t → AllShort vs → Short t → AllShort (down before vs t)
   down-short vs t sound proper old new = at
     where
@@ -54,10 +60,7 @@ module _ {S : Type 0} (before : S → S → Bool) (order : Order before) where
       long = pictured before order (down before vs t) (down-sound before order vs t sound proper) .long
 
       in-row : (u : Codes S) → (listed before (lists vs) u ≡ true) ⊎ Part t u → Short u
-      in-row u (inl h) =
-          let known = known-held before order (lists vs) u h in
-          let good = number-good before order (lists vs) u known in
-          subst Short (list-number before order (lists vs) u known) (old (number before (lists vs) u) (omega (arith, P .long)))
+      in-row u (inl h) = listed-short vs sound old u h
       in-row u (inr p) = part-short t u p new
 
       at : (n : ℕ) → Good (down before vs t) n → Short (codes (down before vs t) n)

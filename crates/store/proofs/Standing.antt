@@ -88,7 +88,7 @@ module _ {S : Type 0} (before : S → S → Bool) (order : Order before) (capaci
         )
 
   -- members of a join are members of one of the two
-  join-short : (f : Bool → Bool → Bool) → f false false ≡ false → (t u : Codes S) → Proper before t → Proper before u → Short t → Short u → Short (join before f t u)
+  pub join-short : (f : Bool → Bool → Bool) → f false false ≡ false → (t u : Codes S) → Proper before t → Proper before u → Short t → Short u → Short (join before f t u)
   join-short f neither t u pt pu st su c m =
       by (both-ways (has before t c)) (both-ways (has before u c))
     where
@@ -107,7 +107,7 @@ module _ {S : Type 0} (before : S → S → Bool) (order : Order before) (capaci
   join-proper f neither t u pt pu = join-right before order f neither t u pt pu .proper
 
   -- a list that is laid down, where the table stays or is forgotten
-  laid : (s s′ : State S) (t : Codes S) (r : Result ℕ Fault) → Standing before capacity s → Proper before t → Short t → LaidDown before capacity s t r s′ → Standing before capacity s′
+  pub laid : (s s′ : State S) (t : Codes S) (r : Result ℕ Fault) → Standing before capacity s → Proper before t → Short t → LaidDown before capacity s t r s′ → Standing before capacity s′
   laid s s′ t (Ok n) st proper short l =
       let e = l .0 .1 in
       record {
@@ -126,3 +126,36 @@ module _ {S : Type 0} (before : S → S → Bool) (order : Order before) (capaci
         few = omega (arith, ap length e, st .few);
         small = st .small;
       }
+
+  -- a call whose checks refuse it leaves the state
+  pub checked : {A : Type 0} (faults : Option Fault) (r : Result A Fault) (s s′ : State S) (then : Type 0) → Standing before capacity s →
+      (faults ≡ None → then → Standing before capacity s′) → Checked faults r (s′ ≡ s) then → Standing before capacity s′
+  checked None r s s′ then st f c = f refl c
+  checked (Some fault) r s s′ then st f c = subst⁻¹ (Standing before capacity) (c .1) st
+
+  change-good : (s : State S) (list : ℕ) (code : List S) (work : List Place) → change-checks before capacity s list code work ≡ None → Good (s .vertices) list × (length code ≤ 64)
+  change-good s list code work e =
+      let first = passes (ltb (length (s .vertices) + 1) list) _ _ e in
+      let second = passes (ltb 64 (length code)) _ _ (first .1) in
+      (good-list (s .vertices) list (first .0), ltb-false 64 (length code) (second .0))
+
+  module _ (s s′ : State S) (st : Standing before capacity s) where
+    pub list-proper : (n : ℕ) → Good (s .vertices) n → Proper before (codes (s .vertices) n)
+    list-proper n good = codes-proper before order (s .vertices) (st .sound) n good
+
+    changed : (f : Bool → Bool → Bool) → f false false ≡ false → (list : ℕ) (code : List S) (work : List Place) (r : Result ℕ Fault) →
+        Checked (change-checks before capacity s list code work) r (s′ ≡ s) (LaidDown before capacity s (join before f (codes (s .vertices) list) (single code)) r s′) →
+        Standing before capacity s′
+    changed f neither list code work r =
+        checked (change-checks before capacity s list code work) r s s′ _ st (λ e l.
+            let g = change-good s list code work e in
+            laid s s′ (join before f (codes (s .vertices) list) (single code)) r st
+            (join-proper f neither (codes (s .vertices) list) (single code) (list-proper list (g .0)) (single-proper before code))
+            (join-short f neither (codes (s .vertices) list) (single code) (list-proper list (g .0)) (single-proper before code) (st .short list (g .0)) (single-short code (g .1)))
+            l)
+
+    pub added-stands : (list : ℕ) (code : List S) (work : List Place) (r : Result ℕ Fault) → Adds before capacity s list code work r s′ → Standing before capacity s′
+    added-stands = changed (takes 7) refl
+
+    pub removed-stands : (list : ℕ) (code : List S) (work : List Place) (r : Result ℕ Fault) → Removes before capacity s list code work r s′ → Standing before capacity s′
+    removed-stands = changed (takes 1) refl
