@@ -1,3 +1,4 @@
+pub mod Checks
 pub mod Shortness
 pub mod Standing
 pub mod Clearing

@@ -29,9 +29,10 @@ use Rattle.store.specs.declared.fault.Fault.{Fault}
 use Rattle.store.specs.State.{State, Forgotten, Checked, check, check-lists, check-work}
 use Rattle.store.specs.Calls.{Joins, JoinedDown, Answers, ClearsOut, ClearedOut}
 use Rattle.store.specs.Run.{Run, fitted-out, adds, removes, joins, clears-out, unders, holds, looks, counts-codes, counts-vertices, picks, NumberIsList}
+use Rattle.store.proofs.Checks.{good-list}
 use Rattle.store.proofs.Shortness.{Short, AllShort, short-none, short-blank, down-short}
 use Rattle.store.proofs.Clearing.{gather-sound, gather-short, gather-few}
-use Rattle.store.proofs.Standing.{Standing, checked, passes, good-list, laid, list-proper, join-proper, join-short, answers-stay, down-long, added-stands, removed-stands}
+use Rattle.store.proofs.Standing.{Standing, checked, passes, laid, list-proper, join-proper, join-short, answers-stay, down-long, added-stands, removed-stands}
 
 module _ {S : Type 0} (before : S → S → Bool) (order : Order before) (capacity : ℕ) where
   empty-stands : (s : State S) → capacity ≤ 1000000 → s .vertices ≡ [] → Forgotten (s .table) → Standing before capacity s

@@ -32,6 +32,7 @@ use Rattle.memory.specs.declared.work.Place.{Place}
 use Rattle.store.specs.declared.fault.Fault.{Fault}
 use Rattle.store.specs.State.{State, Forgotten, check, check-lists, check-code, check-work, Checked}
 use Rattle.store.specs.Calls.{Adds, Removes, Joins, LaidDown, JoinedDown, Answers, change-checks}
+use Rattle.store.proofs.Checks.{good-list}
 use Rattle.store.proofs.Shortness.{Short, AllShort, short-none, short-blank, down-short}
 
 -- every entry of the recall table is right of the vertices
@@ -49,9 +50,6 @@ pub record Standing {S : Type 0} (before : S → S → Bool) (capacity : ℕ) (s
 pub passes : (fails : Bool) (fault : Fault) (behind : Option Fault) → check fails fault behind ≡ None → (fails ≡ false) × (behind ≡ None)
 passes true fault behind e = absurd (none-some e refl)
 passes false fault behind e = (refl, e)
-
-pub good-list : {S : Type 0} (vs : List (Vertex S)) (n : ℕ) → ltb (length vs + 1) n ≡ false → Good vs n
-good-list vs n e = ltb-false (length vs + 1) n e
 
 module _ {S : Type 0} (before : S → S → Bool) (order : Order before) (capacity : ℕ) where
   -- laying down keeps the codes of old numbers

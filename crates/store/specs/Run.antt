@@ -66,3 +66,7 @@ abbrev pub NumberIsList : {S : Type 0} → (S → S → Bool) → ℕ → Type 0
 NumberIsList {S} before capacity =
     (travel : Option (Travel S)) (s : State S) → Run before travel capacity s →
     NumbersAreLists (s .vertices) × NoneSmaller before (s .vertices)
+
+-- from wherever a run led to, a call that only reads answers this
+abbrev pub Asks : {S : Type 0} → (S → S → Bool) → ℕ → Type 0 → State S → Type 0 → Type 0
+Asks {S} before capacity Ready s Answer = (travel : Option (Travel S)) → Stands before travel capacity Ready s → Answer
