@@ -6,7 +6,11 @@ use mathlib.Core.Logic.{_↔_, _⊎_, inl, inr, Iff·rfl, Iff·trans}
 use Prim.Native.Nat.{ℕ, zero, suc, _+_, _*_, _/_, _%_, _^_, _≤_, _<_}
 use native.Mathlib.Omega.{arith}
 use lib.ListN.{length}
+use Rattle.std.specs.declared.result.Result.{Result}
+use Rattle.std.specs.declared.result.Result.the-variants.{Ok, Err}
 use Rattle.symbols.specs.Order.{Order}
+use Rattle.symbols.specs.Wire.{WireLaws}
+use Rattle.symbols.specs.declared.SymbolFault.{SymbolFault}
 use Rattle.ledger.specs.Lists.{Codes, none, blank, begun, Proper}
 use Rattle.ledger.specs.declared.Vertex.{Vertex}
 use Rattle.ledger.specs.Diagrams.{Good, Sound, SameCodes, Reached, Counts}
@@ -31,6 +35,14 @@ append-same (a ∷ ps) [] xs ys l e = absurd (omega arith)
 append-same (a ∷ ps) (b ∷ bs) xs ys l e =
     let r = append-same ps bs xs ys (omega arith) (tail-same refl e) in
     (ap₂ (λ x y. x ∷ y) (head-same refl e) (r .0), r .1)
+
+-- symbols that keep the law of bytes travel
+pub travels : {S : Type 0} (kind width : ℕ) (bytes : S → List ℕ) (reads : List ℕ → Result S SymbolFault) → WireLaws kind width bytes reads → Travels width bytes
+travels {S} kind width bytes reads laws =
+    record {
+      wide = laws .long;
+      apart = λ s t e. let same : _≡_ {A = Result S SymbolFault} (Ok s) (Ok t) = sym (laws .back s) ∙ ap reads e ∙ laws .back t in cc;
+    }
 
 -- numbers that fit four bytes
 abbrev Fit : {S : Type 0} → List (Vertex S) → Type 0

@@ -19,3 +19,6 @@ pub mod Attaining
 pub mod Forming
 pub mod Downs
 pub mod Settling
+pub mod Members
+pub mod Picking
+pub mod Changing
