@@ -1,15 +1,15 @@
 -- What is written of a list is a diagram of its codes, and no vertex of it is spare.
-use mathlib.Core.Path.{_≡_, refl, sym, ap, subst, _∙_}
+use mathlib.Core.Path.{_≡_, sym, ap, subst, _∙_}
 use mathlib.Core.Bool.{Bool}
 use mathlib.Core.List.{List, []}
-use Prim.Native.Nat.{ℕ, _+_, _≤_, _<_}
+use Prim.Native.Nat.{ℕ, _<_}
 use native.Mathlib.Omega.{arith}
 use lib.ListN.{length}
 use Rattle.symbols.specs.Order.{Order}
 use Rattle.ledger.specs.Lists.{Codes, Proper}
 use Rattle.ledger.specs.declared.Vertex.{Vertex}
 use Rattle.ledger.specs.Diagrams.{Good, Sound, IsDiagram, LeadsTo, zero-step, one-step, then, Reached, Counts}
-use Rattle.ledger.specs.Ledger.{lay, codes, down, fresh}
+use Rattle.ledger.specs.Ledger.{lay, codes, fresh}
 use Rattle.ledger.specs.Laid.{Laid}
 use Rattle.ledger.specs.Statements.{LeastDiagram}
 use Rattle.ledger.proofs.Canon.{vertex-good}

@@ -1,19 +1,19 @@
 -- What laying down and clearing out leave, and what is read back of what is written.
-use mathlib.Core.Path.{_≡_, refl, sym, ap, ap₂, subst, subst⁻¹, _∙_}
-use mathlib.Core.Bool.{Bool, true, false}
-use mathlib.Core.List.{List, [], _∷_, _++_, List·Memᴰ}
-use mathlib.Core.Logic.{_↔_, _⊎_, inl, inr}
-use Prim.Native.Nat.{ℕ, zero, suc, _+_, _≤_, _<_}
+use mathlib.Core.Path.{_≡_, refl, sym, ap, subst, subst⁻¹, _∙_}
+use mathlib.Core.Bool.{Bool}
+use mathlib.Core.List.{List, _++_, List·Memᴰ}
+use mathlib.Core.Logic.{_↔_}
+use Prim.Native.Nat.{ℕ, zero}
 use native.Mathlib.Omega.{arith}
-use lib.ListN.{length, length-append}
-use Rattle.std.specs.declared.option.Option.the-variants.{Some, None}
+use lib.ListN.{length-append}
+use Rattle.std.specs.declared.option.Option.the-variants.{Some}
 use Rattle.symbols.specs.Order.{Order}
 use Rattle.ledger.specs.Lists.{Codes, Member, Proper}
 use Rattle.ledger.specs.declared.Vertex.{Vertex}
 use Rattle.ledger.specs.Diagrams.{look, Has, SameCodes, Good, Sound, Reached, itself, over-zero, over-one}
 use Rattle.ledger.specs.Ledger.{codes, down, down-number}
 use Rattle.ledger.specs.Laid.{Placed, laying}
-use Rattle.ledger.specs.Gather.{Marked, Whole, Gatherable, Keeps}
+use Rattle.ledger.specs.Gather.{Marked, Whole, Keeps}
 use Rattle.ledger.specs.Statements.{LaidDown, ClearedOut}
 use Rattle.ledger.proofs.Canon.{Kind, is-0, is-1, is-vertex, kind}
 use Rattle.ledger.proofs.Sets.{proper-same}

@@ -1,22 +1,22 @@
 -- Lists are plain sets: what falls apart, what a join takes, and what a code changes, said of members.
 use mathlib.Core.Path.{_≡_, refl, sym, ap, subst, subst⁻¹, _∙_}
-use mathlib.Core.Bool.{Bool, true, false, cond}
-use mathlib.Core.List.{List, [], _∷_, _++_}
-use mathlib.Core.Logic.{_↔_, _⊎_, inl, inr, Iff·rfl, Iff·trans}
+use mathlib.Core.Bool.{Bool, true, false}
+use mathlib.Core.List.{List, _∷_, _++_}
+use mathlib.Core.Logic.{_↔_, _⊎_, inl, inr, Iff·trans}
 use Prim.Native.Nat.{ℕ, _/_, _%_}
 use lib.Dec.{eqb}
 use borrow.Author.Tests.{eqb-true, eq-eqb}
-use Rattle.symbols.specs.Order.{Order, same-symbol}
+use Rattle.symbols.specs.Order.{Order}
 use Rattle.symbols.proofs.Orders.{not-both}
-use Rattle.ledger.specs.Lists.{Codes, none, blank, begun, Member, Proper}
-use Rattle.ledger.specs.Operations.{has, takes, join, single, added, removed, under}
+use Rattle.ledger.specs.Lists.{Codes, begun, Member, Proper}
+use Rattle.ledger.specs.Operations.{has, takes, join, single, under}
 use Rattle.ledger.specs.PlainSets.{AreSets, FallsApart, Taken, Joins, ByCode}
 use Rattle.ledger.proofs.Reading.{head-same, tail-same, true-false}
 use Rattle.ledger.proofs.Sets.{proper-same, outer-comes, outer-never, begun-member}
 use Rattle.ledger.proofs.Rows.{both-ways}
 use Rattle.ledger.proofs.Joins.{join-right}
 use Rattle.ledger.proofs.Orders.{has-in, in-has}
-use Rattle.ledger.proofs.Frames.{under-has}
+use Rattle.ledger.proofs.Under.{under-has, under-proper}
 use Rattle.ledger.proofs.Finite.{single-proper, single-in, in-single, from-codes}
 
 -- a rule, for any two tests and what they test
@@ -117,18 +117,6 @@ module _ {S : Type 0} (before : S → S → Bool) (order : Order before) where
             (r .0, λ c. Iff·trans (r .1 c) (taken rule (Member t c) (Member u c) (has before t c) (has before u c) (tested t pt c) (tested u pu c)));
       }
 
-  under-proper : (t : Codes S) → Proper before t → (c : List S) → Proper before (under before t c)
-  under-proper none p [] = tt
-  under-proper none p (s ∷ c) = tt
-  under-proper blank p [] = tt
-  under-proper blank p (s ∷ c) = tt
-  under-proper (begun a z o) p [] = p
-  under-proper (begun a z o) p (s ∷ c) =
-      elim (same-symbol before a s) as (λ b. Proper before (cond b (under before o c) (under before z (s ∷ c)))) [
-        | true ↦ under-proper o (p .3) c
-        | false ↦ under-proper z (p .2) (s ∷ c)
-      ]
-
   -- the list of one code has just that code
   is-code : (c d : List S) → (has before (single c) d ≡ true) ↔ (d ≡ c)
   is-code c d = Iff·trans (tested (single c) (single-proper before c) d) (single-in c d, λ e. subst⁻¹ (Member (single c)) e (in-single c))
@@ -143,9 +131,9 @@ module _ {S : Type 0} (before : S → S → Bool) (order : Order before) where
             let r = joined (takes 1) refl t (single c) p (single-proper before c) in
             (r .0, λ d. Iff·trans (r .1 d) (taken-1 (Member t d) (d ≡ c) (has before t d) (has before (single c) d) (tested t p d) (is-code c d)));
         remaining = (
-          under-proper t p c,
+          under-proper before order t p c,
           λ d. (
-            λ m. has-in before order t (c ++ d) (sym (under-has before order t c d) ∙ in-has before order (under before t c) (under-proper t p c) d m),
+            λ m. has-in before order t (c ++ d) (sym (under-has before order t c d) ∙ in-has before order (under before t c) (under-proper before order t p c) d m),
             λ m. has-in before order (under before t c) d (under-has before order t c d ∙ in-has before order t p (c ++ d) m),
           ),
         );

@@ -1,12 +1,11 @@
 -- The order of codes is an order, and in the codes of a list as they follow one another the k-th has k before it.
 use mathlib.Core.Path.{_≡_, refl, sym, ap, ap₂, subst, _∙_}
-use mathlib.Core.Bool.{Bool, true, false, cond}
+use mathlib.Core.Bool.{Bool, true, false}
 use mathlib.Core.List.{List, [], _∷_, List·Memᴰ, List·Memᴰ·head, List·Memᴰ·tail}
 use mathlib.Core.Logic.{_↔_, _⊎_, inl, inr}
 use Prim.Native.Nat.{ℕ, zero, suc}
-use lib.ListN.{length}
 use Rattle.std.specs.Finite.{nth}
-use Rattle.std.specs.declared.option.Option.the-variants.{Some, None}
+use Rattle.std.specs.declared.option.Option.the-variants.{Some}
 use Rattle.symbols.specs.Order.{Order}
 use Rattle.symbols.proofs.Orders.{not-both}
 use Rattle.ledger.specs.Lists.{Codes, Member, Proper}
@@ -82,9 +81,6 @@ module _ {S : Type 0} (before : S → S → Bool) (order : Order before) where
   ascending-apart : (l : List (List S)) → Ascending before l → Apart l
   ascending-apart [] p = tt
   ascending-apart (c ∷ l) p = (λ m. true-false (p .0 c m) (irreflexive c), ascending-apart l (p .1))
-
-  Earlier : List (List S) → List S → List S → Type 0
-  Earlier l c d = List·Memᴰ d l × (code-before before d c ≡ true)
 
   earlier-many : (l : List (List S)) → Ascending before l → (k : ℕ) (c : List S) → nth l k ≡ Some c → Counts (λ d. List·Memᴰ d l × (code-before before d c ≡ true)) k
   earlier-many [] p k c e = absurd (none-some refl e)

@@ -2,7 +2,7 @@
 use mathlib.Core.Path.{_≡_, refl, sym, ap, subst, _∙_}
 use mathlib.Core.Bool.{Bool, true, false, not, _&&_}
 use mathlib.Core.List.{List, [], _∷_}
-use mathlib.Core.Logic.{_↔_, _⊎_, inl, inr}
+use mathlib.Core.Logic.{inl, inr}
 use Rattle.symbols.specs.Order.{Order, same-symbol}
 use Rattle.ledger.specs.Lists.{Codes, none, blank, begun, Member, Comes, Some-code, Proper, SameMembers, same}
 use Rattle.ledger.proofs.Reading.{nil-cons, head-same, tail-same, true-false, UpTo, upto-after, upto-both}
