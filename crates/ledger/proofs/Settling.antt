@@ -1,6 +1,6 @@
 -- Laying down on vertices, a step at a time, is what the ledger says. What a walk that lays down cites stands here: the
 -- codes of numbers in any row, an equal vertex found or appended, and what laying a list down leaves.
-use mathlib.Core.Path.{_≡_, refl, sym, ap, ap₂, subst, _∙_}
+use mathlib.Core.Path.{_≡_, refl, sym, ap, subst, _∙_}
 use mathlib.Core.Bool.{Bool, true, false, cond, _&&_}
 use mathlib.Core.List.{List, [], _∷_, _++_, append-nil, append-assoc}
 use mathlib.Core.Logic.{_⊎_, inl, inr}
@@ -8,7 +8,7 @@ use Prim.Native.Nat.{ℕ, zero, suc, _+_, _≤_, _<_}
 use native.Mathlib.Omega.{arith}
 use lib.Dec.{eqb}
 use borrow.Author.Tests.{eqb-true, eq-eqb}
-use lib.ListN.{length, getD, length-append}
+use lib.ListN.{length, length-append}
 use Rattle.std.specs.Finite.{nth}
 use Rattle.std.specs.declared.option.Option.{Option}
 use Rattle.std.specs.declared.option.Option.the-variants.{Some, None}
@@ -16,88 +16,18 @@ use Rattle.std.specs.declared.result.Result.the-variants.{Ok, Err}
 use Rattle.symbols.specs.Order.{Order, same-symbol}
 use Rattle.ledger.specs.Lists.{Codes, none, blank, begun, Proper}
 use Rattle.ledger.specs.declared.Vertex.{Vertex}
-use Rattle.ledger.specs.Diagrams.{look, Good, Formed, Sound}
-use Rattle.ledger.specs.Ledger.{lay, list-in, draw, lists, codes, down, down-number, Lays}
+use Rattle.ledger.specs.Diagrams.{look, Good, Sound}
+use Rattle.ledger.specs.Ledger.{lay, lists, codes, down, down-number, Lays}
 use Rattle.ledger.specs.Laid.{Laid, First, same-vertex, found, Placed, or-new, placed, laying}
 use Rattle.ledger.proofs.Reading.{none-some, some-same, true-false}
-use Rattle.ledger.proofs.Canon.{Kind, is-0, is-1, is-vertex, kind, vertex-good}
-use Rattle.ledger.proofs.Sets.{begun-same, and-left, and-right, symbol-same, symbol-self}
-use Rattle.ledger.proofs.Ends.{length-snoc, getD-last}
-use Rattle.ledger.proofs.Rows.{both-ways, list-front}
-use Rattle.ledger.proofs.Drawn.{draw-append, codes-proper}
+use Rattle.ledger.proofs.Sets.{and-left, and-right, symbol-same, symbol-self}
+use Rattle.ledger.proofs.Rows.{both-ways}
+pub use Rattle.ledger.proofs.Draws.{terminal, lists-long, codes-front, codes-unfold, codes-formed}
+use Rattle.ledger.proofs.Drawn.{codes-proper}
 use Rattle.ledger.proofs.Laying.{laid-known, laid-found, laid-append}
 use Rattle.ledger.proofs.Downs.{laid-is}
 
--- a good number without a vertex is a terminal
-pub terminal : {S : Type 0} (vs : List (Vertex S)) (n : ℕ) → Good vs n → look vs n ≡ None → (n ≡ 0) ⊎ (n ≡ 1)
-terminal vs n g e = by (kind vs n g)
-  where
-    by : Kind vs n → (n ≡ 0) ⊎ (n ≡ 1)
-    by (is-0 p) = inl p
-    by (is-1 p) = inr p
-    by (is-vertex v p) = absurd (none-some e p)
-
 module _ {S : Type 0} (before : S → S → Bool) (order : Order before) where
-  -- any row of vertices
-  draw-long : (row : List (Codes S)) (vs : List (Vertex S)) → length (draw row vs) ≡ length row + length vs
-  draw-long row [] = omega arith
-  draw-long row (v ∷ vs) =
-      let x = begun (v .label) (list-in row (v .zero)) (list-in row (v .one)) in
-      draw-long (row ++ x ∷ []) vs ∙ (let l = length-snoc row x in omega arith)
-
-  -- there are as many lists as vertices
-  pub lists-long : (vs : List (Vertex S)) → length (lists vs) ≡ length vs
-  lists-long vs = draw-long [] vs ∙ (omega arith)
-
-  draw-old : (row : List (Codes S)) (vs : List (Vertex S)) (n : ℕ) → n ≤ length row + 1 → list-in (draw row vs) n ≡ list-in row n
-  draw-old row [] n h = refl
-  draw-old row (v ∷ vs) n h =
-      let x = begun (v .label) (list-in row (v .zero)) (list-in row (v .one)) in
-      let l = length-snoc row x in
-      draw-old (row ++ x ∷ []) vs n (omega arith) ∙ list-front before order row (x ∷ []) n h
-
-  -- more vertices change no old number's codes
-  pub codes-front : (vs more : List (Vertex S)) (n : ℕ) → Good vs n → codes (vs ++ more) n ≡ codes vs n
-  codes-front vs more n g = ap (λ r. list-in r n) (draw-append [] vs more) ∙ draw-old (lists vs) more n (omega (arith, lists-long vs))
-
-  draw-first : (row : List (Codes S)) (v : Vertex S) (vs : List (Vertex S)) → v .zero ≤ length row + 1 → v .one ≤ length row + 1 →
-      list-in (draw row (v ∷ vs)) (suc (suc (length row))) ≡ begun (v .label) (list-in (draw row (v ∷ vs)) (v .zero)) (list-in (draw row (v ∷ vs)) (v .one))
-  draw-first row v vs hz ho =
-      let x = begun (v .label) (list-in row (v .zero)) (list-in row (v .one)) in
-      let l = length-snoc row x in
-      draw-old (row ++ x ∷ []) vs (suc (suc (length row))) (omega arith) ∙ getD-last row x none ∙
-      begun-same refl (sym (draw-old row (v ∷ vs) (v .zero) hz)) (sym (draw-old row (v ∷ vs) (v .one) ho))
-
-  draw-at : (row : List (Codes S)) (vs : List (Vertex S)) (k : ℕ) (v : Vertex S) → nth vs k ≡ Some v → v .zero ≤ length row + k + 1 → v .one ≤ length row + k + 1 →
-      list-in (draw row vs) (suc (suc (length row + k))) ≡ begun (v .label) (list-in (draw row vs) (v .zero)) (list-in (draw row vs) (v .one))
-  draw-at row [] k v e hz ho = absurd (none-some refl e)
-  draw-at row (w ∷ vs) zero v e hz ho =
-      let p : w ≡ v = some-same refl e in
-      let q : length row ≡ length row + 0 = omega arith in
-      subst (λ k. list-in (draw row (w ∷ vs)) (suc (suc k)) ≡ begun (v .label) (list-in (draw row (w ∷ vs)) (v .zero)) (list-in (draw row (w ∷ vs)) (v .one))) q
-      (subst (λ (u : Vertex S). u .zero ≤ length row + 1 → u .one ≤ length row + 1 →
-          list-in (draw row (w ∷ vs)) (suc (suc (length row))) ≡ begun (u .label) (list-in (draw row (w ∷ vs)) (u .zero)) (list-in (draw row (w ∷ vs)) (u .one))) p
-      (draw-first row w vs) (omega arith) (omega arith))
-  draw-at row (w ∷ vs) (suc k) v e hz ho =
-      let x = begun (w .label) (list-in row (w .zero)) (list-in row (w .one)) in
-      let l = length-snoc row x in
-      let q : length (row ++ x ∷ []) + k ≡ length row + suc k = omega arith in
-      subst (λ m. list-in (draw row (w ∷ vs)) (suc (suc m)) ≡ begun (v .label) (list-in (draw row (w ∷ vs)) (v .zero)) (list-in (draw row (w ∷ vs)) (v .one))) q
-      (draw-at (row ++ x ∷ []) vs k v e (omega arith) (omega arith))
-
-  -- a vertex whose links are below its number has its label's codes and the others
-  pub codes-unfold : (vs : List (Vertex S)) (n : ℕ) (v : Vertex S) → look vs n ≡ Some v → v .zero < n → v .one < n →
-      codes vs n ≡ begun (v .label) (codes vs (v .zero)) (codes vs (v .one))
-  codes-unfold vs zero v e hz ho = absurd (none-some refl e)
-  codes-unfold vs (suc zero) v e hz ho = absurd (none-some refl e)
-  codes-unfold vs (suc (suc k)) v e hz ho =
-      let q : 0 + k ≡ k = omega arith in
-      subst (λ m. codes vs (suc (suc m)) ≡ begun (v .label) (codes vs (v .zero)) (codes vs (v .one))) q (draw-at [] vs k v e (omega arith) (omega arith))
-
-  pub codes-formed : (vs : List (Vertex S)) → Formed before vs → (n : ℕ) (v : Vertex S) → look vs n ≡ Some v →
-      codes vs n ≡ begun (v .label) (codes vs (v .zero)) (codes vs (v .one))
-  codes-formed vs f n v e = codes-unfold vs n v e (f .zero-below n v e) (f .one-below n v e)
-
   -- equal vertices
   pub vertex-same : (v w : Vertex S) → same-vertex before v w ≡ true → v ≡ w
   vertex-same v w e =
@@ -249,7 +179,7 @@ module _ {S : Type 0} (before : S → S → Bool) (order : Order before) where
   laying-is vs t s p = let e = laid-is before order vs t _ _ (laying-laid vs t s p) in λ i. (e .0 i, e .1 i)
 
   pub laying-long : (vs : List (Vertex S)) (t : Codes S) → Sound before vs → Proper before t → length (laying before vs t .0) ≡ length (lay before (lists vs) t)
-  laying-long vs t s p = sym (lists-long (laying before vs t .0)) ∙ ap length (laying-laid vs t s p .row)
+  laying-long vs t s p = sym (lists-long before order (laying before vs t .0)) ∙ ap length (laying-laid vs t s p .row)
 
   -- a list that has a number is laid down by nothing
   pub laying-self : (vs : List (Vertex S)) → Sound before vs → (n : ℕ) → Good vs n → laying before vs (codes vs n) ≡ (vs, n)
@@ -259,7 +189,7 @@ module _ {S : Type 0} (before : S → S → Bool) (order : Order before) where
 
   pub laying-known : (vs more : List (Vertex S)) → Sound before (vs ++ more) → (n : ℕ) → Good vs n → laying before (vs ++ more) (codes vs n) ≡ (vs ++ more, n)
   laying-known vs more s n g =
-      ap (laying before (vs ++ more)) (sym (codes-front vs more n g)) ∙ laying-self (vs ++ more) s n (omega (arith, length-append vs more))
+      ap (laying before (vs ++ more)) (sym (codes-front before order vs more n g)) ∙ laying-self (vs ++ more) s n (omega (arith, length-append vs more))
 
   -- a vertex over an old outer list, and one over an old inner list
   pub laying-inner : (vs : List (Vertex S)) → Sound before vs → (a : S) (n : ℕ) (o : Codes S) → Good vs n →
