@@ -1,2 +1,4 @@
 pub mod Asked
+pub mod Changed
 pub mod Framed
+pub mod Waiting

@@ -17,8 +17,20 @@ impl Frame {
         ensures { λ r. ⌜ frame-in r ≡ self ⌝ }
     {
         match self {
-            Frame::Zero { vertex } => Place { state: 0, list: vertex, other: 0, number: 0, count: 0 },
-            Frame::One { zero, spot } => Place { state: 1, list: zero, other: 0, number: 0, count: spot as u64 },
+            Frame::Zero { vertex } => Place {
+                state: 0,
+                list: vertex,
+                other: 0,
+                number: 0,
+                count: 0,
+            },
+            Frame::One { zero, spot } => Place {
+                state: 1,
+                list: zero,
+                other: 0,
+                number: 0,
+                count: spot as u64,
+            },
         }
     }
 
@@ -28,7 +40,10 @@ impl Frame {
         if place.state == 0 {
             Frame::Zero { vertex: place.list }
         } else {
-            Frame::One { zero: place.list, spot: place.count as usize }
+            Frame::One {
+                zero: place.list,
+                spot: place.count as usize,
+            }
         }
     }
 }
