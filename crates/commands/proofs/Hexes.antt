@@ -8,7 +8,7 @@ use lib.Dec.{leb, ltb, eqb}
 use lib.ListN.{length, getD, take, drop, set}
 use Rattle.std.proofs.shelf.Bits.{div-mul-add, mod-mul-add}
 use Rattle.std.proofs.shelf.Elements.{all-push, all-getD}
-use Rattle.std.proofs.shelf.Lists.{at-drop-more, at-drop-all, append-assoc, take-more, take-more-set, drop-more, drop-set-lt, drop-drop, set-at, length-append, length-take-le}
+use Rattle.std.proofs.shelf.Lists.{at-drop-more, at-drop-all, append-assoc, take-more, take-more-set, drop-more, drop-set-lt, drop-drop, set-at, length-append, length-take-le, take-append-drop}
 use Rattle.std.proofs.shelf.Tests.{and-parts, eqb-true, eq-eqb}
 use Rattle.std.proofs.shelf.Ways.{tells, decides-by-and}
 use Rattle.commands.specs.Hexadecimals.{digit, hexadecimal, Bytes, Writes, Hexadecimal, is-digit, all-digits, is-text}
@@ -80,19 +80,22 @@ text-complete text h =
 digit-once : (m n : ℕ) → m < 16 → n < 16 → digit m ≡ digit n → m ≡ n
 digit-once m n h k e = grind (arith, tells)
 
-pub hex-once : (xs ys : List ℕ) → Bytes xs → Bytes ys → hexadecimal xs ≡ hexadecimal ys → xs ≡ ys
-hex-once [] [] h k e = refl
-hex-once [] (y ∷ ys) h k e = absurd (omega (arith, ap length e))
-hex-once (x ∷ xs) [] h k e = absurd (omega (arith, ap length e))
-hex-once (x ∷ xs) (y ∷ ys) h k e =
+same-from-hex : (xs ys : List ℕ) → Bytes xs → Bytes ys → hexadecimal xs ≡ hexadecimal ys → xs ≡ ys
+same-from-hex [] [] h k e = refl
+same-from-hex [] (y ∷ ys) h k e = absurd (omega (arith, ap length e))
+same-from-hex (x ∷ xs) [] h k e = absurd (omega (arith, ap length e))
+same-from-hex (x ∷ xs) (y ∷ ys) h k e =
     let high : digit (x / 16) ≡ digit (y / 16) = cc in
     let low : digit (x % 16) ≡ digit (y % 16) = cc in
     let rest : hexadecimal xs ≡ hexadecimal ys = cc in
     let over = digit-once (x / 16) (y / 16) (omega (arith, h .0)) (omega (arith, k .0)) high in
     let under = digit-once (x % 16) (y % 16) (omega arith) (omega arith) low in
     let first : x ≡ y = omega arith in
-    let others = hex-once xs ys (h .1) (k .1) rest in
+    let others = same-from-hex xs ys (h .1) (k .1) rest in
     cc
+
+pub hex-once : (text these those : List ℕ) → Writes text these → Writes text those → these ≡ those
+hex-once text these those h k = same-from-hex these those (h .0) (k .0) (h .1 ∙ sym (k .1))
 
 -- the loop of a text that is read
 pub hex-++ : (xs ys : List ℕ) → hexadecimal (xs ++ ys) ≡ hexadecimal xs ++ hexadecimal ys
@@ -118,6 +121,9 @@ bytes-more out i v l small h =
 
 pub kept-more : (out old : List ℕ) (i v : ℕ) → drop i out ≡ drop i old → drop (i + 1) (set out i v) ≡ drop (i + 1) old
 kept-more out old i v h = drop-set-lt (i + 1) out i v (omega arith) ∙ sym (drop-drop 1 i out) ∙ ap (drop 1) h ∙ drop-drop 1 i old
+
+pub read-all : (out old : List ℕ) (i n : ℕ) → i ≡ n → drop i out ≡ drop i old → out ≡ take i out ++ drop n old
+read-all out old i n e h = sym (take-append-drop i out) ∙ ap (λ s. take i out ++ s) h ∙ ap (λ k. take i out ++ drop k old) e
 
 pub digit-at : (bs : List ℕ) (i : ℕ) → i < length bs → all-digits bs ≡ true → is-digit (getD bs i 0) ≡ true
 digit-at bs i l h = all-getD (λ b. is-digit b ≡ true) bs i 0 l (decides-by-and is-digit (λ b. is-digit b ≡ true) all-digits (λ b. (λ e. e, λ e. e)) refl (λ _ _. refl) bs .0 h)
