@@ -1,0 +1,5 @@
+mod Texts
+mod Hexes
+mod Numbers
+mod Lines
+mod Spelling
