@@ -15,7 +15,7 @@ use Rattle.ledger.specs.declared.Vertex.{Vertex}
 use Rattle.ledger.specs.Diagrams.{Good}
 use Rattle.memory.specs.declared.work.Place.{Place}
 use Rattle.store.specs.declared.fault.Fault.{Fault}
-use Rattle.store.specs.State.{check, check-lists, check-code, check-work, answered}
+use Rattle.store.specs.State.{check, check-lists, check-code, check-work, answered, Checked}
 
 -- what a check that was passed says: it did not fail, and those behind it answer
 pub passed : (fails : Bool) (fault : Fault) → _≡_ {A = Result (Unit {0}) Fault} (Ok tt) (answered (check fails fault None) tt) →
@@ -48,3 +48,8 @@ pub counted-many : (faults : Option Fault → Option Fault) (n : ℕ) (fault : F
 counted-many faults n fault through h =
     let large : leb (2 ^ 64) n ≡ true = le-leb (2 ^ 64) n h in
     sym (ap (λ o. answered o n) (through _ ∙ ap (λ b. check b fault None) large))
+
+-- no check refuses, so what comes then is what is to be shown
+pub then-comes : {A : Type 0} (faults : Option Fault) (r : Result A Fault) (same then : Type 0) → faults ≡ None → then → Checked faults r same then
+then-comes None r same then e t = t
+then-comes (Some f) r same then e t = let z : _≡_ {A = ℕ} 0 1 = cc in absurd (omega arith)

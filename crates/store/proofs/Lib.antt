@@ -3,3 +3,4 @@ pub mod Shortness
 pub mod Standing
 pub mod Clearing
 pub mod Runs
+pub mod Stepping

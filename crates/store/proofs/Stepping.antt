@@ -1,0 +1,30 @@
+-- Calls whose checks have passed take their steps.
+use mathlib.Core.Path.{_≡_, refl, _∙_}
+use mathlib.Core.Bool.{Bool}
+use mathlib.Core.List.{List}
+use Prim.Native.Nat.{ℕ}
+use Rattle.std.specs.declared.option.Option.{Option}
+use Rattle.std.specs.declared.option.Option.the-variants.{None}
+use Rattle.std.specs.declared.result.Result.{Result}
+use Rattle.std.specs.declared.result.Result.the-variants.{Ok, Err}
+use Rattle.symbols.specs.Wire.{Travel}
+use Rattle.ledger.specs.Ledger.{codes}
+use Rattle.ledger.specs.Operations.{added, removed}
+use Rattle.memory.specs.declared.work.Place.{Place}
+use Rattle.store.specs.declared.fault.Fault.{Fault}
+use Rattle.store.specs.State.{State}
+use Rattle.store.specs.Calls.{LaidDown, Adds, Removes, change-checks}
+use Rattle.store.specs.Run.{Stands, adds, removes}
+use Rattle.store.proofs.Checks.{then-comes}
+
+module _ {S : Type 0} (before : S → S → Bool) (capacity : ℕ) (s s′ : State S) (list : ℕ) (code : List S) (work : List Place) (r : Result ℕ Fault)
+    (passed : change-checks before capacity s list code work ≡ None) (travel : Option (Travel S)) (Ready Ready′ : Type 0) (st : Stands before travel capacity Ready s) (ready : Ready → Ready′) where
+  pub adding : LaidDown before capacity s (added before (codes (s .vertices) list) code) r s′ → Adds before capacity s list code work r s′ × Stands before travel capacity Ready′ s′
+  adding laid =
+      let step : Adds before capacity s list code work r s′ = then-comes (change-checks before capacity s list code work) r (s′ ≡ s) (LaidDown before capacity s (added before (codes (s .vertices) list) code) r s′) passed laid in
+      (step, record { ready = ready (st .ready); run = adds s list code work r (st .run) step })
+
+  pub removing : LaidDown before capacity s (removed before (codes (s .vertices) list) code) r s′ → Removes before capacity s list code work r s′ × Stands before travel capacity Ready′ s′
+  removing laid =
+      let step : Removes before capacity s list code work r s′ = then-comes (change-checks before capacity s list code work) r (s′ ≡ s) (LaidDown before capacity s (removed before (codes (s .vertices) list) code) r s′) passed laid in
+      (step, record { ready = ready (st .ready); run = removes s list code work r (st .run) step })
