@@ -100,6 +100,13 @@ Accepted {S} before =
     (vs : List (Vertex S)) → Formed before vs → (root : ℕ) → Good vs root →
     (Different vs × Visits vs 0 root (length vs)) ↔ (fresh before (codes vs root) ≡ record { drawn = vs; root = root })
 
+-- so of the bytes: those of formed vertices and a root are what writing the root's list gives under the same conditions
+abbrev pub Received : {S : Type 0} → (S → S → Bool) → (kind width : ℕ) → (S → List ℕ) → Type 0
+Received {S} before kind width bytes =
+    (vs : List (Vertex S)) → Formed before vs → length vs ≤ 1000000 → (root : ℕ) → Good vs root →
+    (Different vs × Visits vs 0 root (length vs)) ↔
+    (dispatch kind width bytes (fresh before (codes vs root)) ≡ dispatch kind width bytes (record { drawn = vs; root = root }))
+
 -- a list written from one row and a list written from another give equal bytes exactly when they have the same codes
 abbrev pub WrittenAlike : {S : Type 0} → (S → S → Bool) → (kind width : ℕ) → (S → List ℕ) → Type 0
 WrittenAlike {S} before kind width bytes =
