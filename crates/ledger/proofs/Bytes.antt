@@ -17,7 +17,7 @@ use Rattle.ledger.specs.declared.Vertex.{Vertex}
 use Rattle.ledger.specs.Diagrams.{Good, Formed, Different, Sound, SameCodes, Reached, Counts}
 use Rattle.ledger.specs.Visits.{Visits}
 use Rattle.ledger.specs.Ledger.{lay, codes, Drawing, fresh}
-use Rattle.ledger.specs.Dispatch.{be4, Travels, records, dispatch}
+use Rattle.ledger.specs.Dispatch.{be4, records, dispatch}
 use Rattle.ledger.proofs.Reading.{head-same, tail-same}
 use Rattle.ledger.proofs.Least.{at-least}
 use Rattle.ledger.proofs.Canon.{vertex-good}
@@ -41,37 +41,33 @@ append-same (a ∷ ps) (b ∷ bs) xs ys l e =
     let r = append-same ps bs xs ys (omega arith) (tail-same refl e) in
     (ap₂ (λ x y. x ∷ y) (head-same refl e) (r .0), r .1)
 
--- symbols that keep the law of bytes travel
-pub travels : {S : Type 0} (kind width : ℕ) (bytes : S → List ℕ) (reads : List ℕ → Result S SymbolFault) → WireLaws kind width bytes reads → Travels width bytes
-travels {S} kind width bytes reads laws =
-    record {
-      wide = laws .long;
-      apart = λ s t e. let same : _≡_ {A = Result S SymbolFault} (Ok s) (Ok t) = sym (laws .back s) ∙ ap reads e ∙ laws .back t in cc;
-    }
-
 -- numbers that fit four bytes
 abbrev Fit : {S : Type 0} → List (Vertex S) → Type 0
 Fit [] = Unit {0}
 Fit (v ∷ vs) = (v .zero < 2 ^ 32) × (v .one < 2 ^ 32) × Fit vs
 
-module _ {S : Type 0} (width : ℕ) (bytes : S → List ℕ) (travels : Travels width bytes) where
+module _ {S : Type 0} (kind width : ℕ) (bytes : S → List ℕ) (reads : List ℕ → Result S SymbolFault) (laws : WireLaws kind width bytes reads) where
+  -- no two symbols have the same bytes
+  symbol-same : (s t : S) → bytes s ≡ bytes t → s ≡ t
+  symbol-same s t e = let same : _≡_ {A = Result S SymbolFault} (Ok s) (Ok t) = sym (laws .back s) ∙ ap reads e ∙ laws .back t in cc
+
   records-same : (vs ws : List (Vertex S)) → Fit vs → Fit ws → length vs ≡ length ws → records bytes vs ≡ records bytes ws → vs ≡ ws
   records-same [] [] fv fw l e = refl
   records-same [] (w ∷ ws) fv fw l e = absurd (omega arith)
   records-same (v ∷ vs) [] fv fw l e = absurd (omega arith)
   records-same (v ∷ vs) (w ∷ ws) fv fw l e =
-      let one = append-same (bytes (v .label)) (bytes (w .label)) _ _ (travels .wide (v .label) ∙ sym (travels .wide (w .label))) e in
+      let one = append-same (bytes (v .label)) (bytes (w .label)) _ _ (laws .long (v .label) ∙ sym (laws .long (w .label))) e in
       let two = append-same (be4 (v .zero)) (be4 (w .zero)) _ _ refl (one .1) in
       let three = append-same (be4 (v .one)) (be4 (w .one)) _ _ refl (two .1) in
-      let a : v .label ≡ w .label = travels .apart (v .label) (w .label) (one .0) in
+      let a : v .label ≡ w .label = symbol-same (v .label) (w .label) (one .0) in
       let z : v .zero ≡ w .zero = be4-same (v .zero) (w .zero) (fv .0) (fw .0) (two .0) in
       let o : v .one ≡ w .one = be4-same (v .one) (w .one) (fv .1) (fw .1) (three .0) in
       let rest : vs ≡ ws = records-same vs ws (fv .2) (fw .2) (omega arith) (three .1) in
       λ i. record { label = a i; zero = z i; one = o i } ∷ rest i
 
-  pub dispatch-same : (kind : ℕ) (d e : Drawing S) → Fit (d .drawn) → Fit (e .drawn) → length (d .drawn) < 2 ^ 32 → length (e .drawn) < 2 ^ 32 → d .root < 2 ^ 32 → e .root < 2 ^ 32 →
+  dispatch-same : (d e : Drawing S) → Fit (d .drawn) → Fit (e .drawn) → length (d .drawn) < 2 ^ 32 → length (e .drawn) < 2 ^ 32 → d .root < 2 ^ 32 → e .root < 2 ^ 32 →
       dispatch kind width bytes d ≡ dispatch kind width bytes e → d ≡ e
-  dispatch-same kind d e fd fe ld le rd re p =
+  dispatch-same d e fd fe ld le rd re p =
       let one = append-same (be4 (14 + length (d .drawn) * (width + 8))) (be4 (14 + length (e .drawn) * (width + 8))) _ _ refl p in
       let q = tail-same refl (tail-same refl (one .1)) in
       let two = append-same (be4 (length (d .drawn))) (be4 (length (e .drawn))) _ _ refl q in
@@ -106,12 +102,12 @@ module _ {S : Type 0} (before : S → S → Bool) (order : Order before) where
       let few = at-least before order ds vs (l .sound) (f .later) (fresh before t .root) (length (lay before [] t)) many n (same-lists before order ds vs (l .sound .formed) f (fresh before t .root) n (l .good) g (l .is)) in
       omega (arith, written-long before order t p)
 
-  module _ (kind width : ℕ) (bytes : S → List ℕ) (travels : Travels width bytes) where
+  module _ (kind width : ℕ) (bytes : S → List ℕ) (reads : List ℕ → Result S SymbolFault) (laws : WireLaws kind width bytes reads) where
     -- equal bytes are of equal vertices and roots
     drawings-same : (d e : Drawing S) → Formed before (d .drawn) → Formed before (e .drawn) → length (d .drawn) ≤ 1000000 → length (e .drawn) ≤ 1000000 →
         Good (d .drawn) (d .root) → Good (e .drawn) (e .root) → dispatch kind width bytes d ≡ dispatch kind width bytes e → d ≡ e
     drawings-same d e fd fe ld le gd ge p =
-        dispatch-same width bytes travels kind d e (fit (d .drawn) fd ld) (fit (e .drawn) fe le) (omega arith) (omega arith) (omega arith) (omega arith) p
+        dispatch-same kind width bytes reads laws d e (fit (d .drawn) fd ld) (fit (e .drawn) fe le) (omega arith) (omega arith) (omega arith) (omega arith) p
 
     pub dispatches-alike : (vs ws : List (Vertex S)) → Sound before vs → Sound before ws → length vs ≤ 1000000 → length ws ≤ 1000000 →
         (m n : ℕ) → Good vs m → Good ws n →

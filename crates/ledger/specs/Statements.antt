@@ -1,7 +1,7 @@
 -- What is proved of every row of vertices, every diagram and every dispatch.
 use mathlib.Core.Path.{_≡_}
 use mathlib.Core.Bool.{Bool}
-use mathlib.Core.List.{List, _++_, List·Memᴰ}
+use mathlib.Core.List.{List, [], _++_, List·Memᴰ}
 use mathlib.Core.Logic.{_↔_, _⊎_}
 use Prim.Native.Nat.{ℕ, _≤_}
 use lib.ListN.{length}
@@ -43,6 +43,10 @@ abbrev pub Attained : {S : Type 0} → (S → S → Bool) → Type 0
 Attained {S} before =
     (vs : List (Vertex S)) → Sound before vs → (n : ℕ) → Good vs n →
     LeastDiagram before vs n (fresh before (codes vs n) .drawn) (fresh before (codes vs n) .root)
+
+-- the vertices of a fresh ledger are sound
+abbrev pub FreshSound : {S : Type 0} → (S → S → Bool) → Type 0
+FreshSound {S} before = Sound {S = S} before []
 
 -- the list has a number
 abbrev pub Numbered : {S : Type 0} → List (Vertex S) → Codes S → Type 0
