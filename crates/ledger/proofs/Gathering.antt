@@ -9,7 +9,7 @@ use lib.ListN.{length, getD}
 use Rattle.std.specs.Finite.{nth}
 use Rattle.std.specs.declared.option.Option.the-variants.{Some}
 use Rattle.symbols.specs.Order.{Order}
-use Rattle.ledger.specs.Lists.{Codes, none, begun, Member, Comes, Some-code, same}
+use Rattle.ledger.specs.Lists.{Codes, none, begun, Comes, Some-code, same}
 use Rattle.ledger.specs.declared.Vertex.{Vertex}
 use Rattle.ledger.specs.Diagrams.{look, Good, Sound, SameCodes}
 use Rattle.ledger.specs.Ledger.{listed, position, number, list-in, lists, codes, vertices-of}
@@ -18,7 +18,8 @@ use Rattle.ledger.proofs.Reading.{true-false, none-some}
 use Rattle.ledger.proofs.Canon.{Kind, is-0, is-1, is-vertex, kind, vertex-good}
 use Rattle.ledger.proofs.Ends.{by-ends, nth-last, length-snoc, getD-last, getD-front}
 use Rattle.ledger.proofs.Rows.{both-ways, Known, Ledger, empty-row, one-more, known-list, number-good, number-list, list-number, listed-getD}
-use Rattle.ledger.proofs.Drawn.{Pictured, pictured, vertices-of-more, lists-vertices-of, lists-more, not-there, comes, some-code, sound-front, look-front, codes-proper, has-member, member-has}
+use Rattle.ledger.proofs.Drawn.{Pictured, pictured, vertices-of-more, lists-vertices-of, lists-more, not-there, comes, some-code, sound-front, look-front, codes-proper}
+use Rattle.ledger.proofs.Draws.{same-lists}
 use Rattle.ledger.proofs.Laying.{sound-more}
 
 module _ {S : Type 0} (before : S → S → Bool) (order : Order before) where
@@ -334,8 +335,5 @@ module _ {S : Type 0} (before : S → S → Bool) (order : Order before) where
           let one : codes (gather ms vs) (renumber ms n) ≡ codes vs n =
           ap (λ r. list-in r (renumber ms n)) rows ∙ ap (list-in (keep ms (lists vs))) (sym (k .1)) ∙ list-number before order (keep ms (lists vs)) (codes vs n) (k .0) in (
             good,
-            λ c. (
-              λ h. member-has before order (gather ms vs) after (renumber ms n) good c (subst⁻¹ (λ t. Member t c) one (has-member before order vs s h)),
-              λ h. member-has before order vs s n g c (subst (λ t. Member t c) one (has-member before order (gather ms vs) after h)),
-            ),
+            same-lists before order vs (gather ms vs) (s .formed) (after .formed) n (renumber ms n) g good (sym one),
           )

@@ -8,7 +8,7 @@ use native.Mathlib.Omega.{arith}
 use lib.ListN.{length, length-map}
 use Rattle.std.specs.declared.option.Option.the-variants.{Some}
 use Rattle.symbols.specs.Order.{Order}
-use Rattle.ledger.specs.Lists.{Codes, none, blank, begun, same}
+use Rattle.ledger.specs.Lists.{Codes, none, blank, begun, same, Part}
 use Rattle.ledger.specs.declared.Vertex.{Vertex}
 use Rattle.ledger.specs.Diagrams.{look, Good, Sound, Reached, itself, over-zero, over-one, Apart, Counts}
 use Rattle.ledger.specs.Ledger.{listed, number, lay, list-in, lists, codes}
@@ -17,12 +17,6 @@ use Rattle.ledger.proofs.Canon.{Kind, is-0, is-1, is-vertex, kind, vertex-good
 use Rattle.ledger.proofs.Sets.{same-equal, same-self}
 use Rattle.ledger.proofs.Rows.{both-ways, Known, Ledger, empty-row, one-more, listed-front, listed-last, listed-cases, known-front, known-list, list-number, number-list, lay-held, lay-new, lay-knows, lay-ledger}
 use Rattle.ledger.proofs.Drawn.{Pictured, pictured, codes-proper}
-
--- a list's parts: itself, and the parts of its outer and its inner list
-abbrev pub Part : {S : Type 0} → Codes S → Codes S → Type 0
-Part none u = none ≡ u
-Part blank u = blank ≡ u
-Part (begun a z o) u = (begun a z o ≡ u) ⊎ (Part z u ⊎ Part o u)
 
 part-self : {S : Type 0} (t : Codes S) → Part t t
 part-self none = refl
