@@ -71,7 +71,7 @@ module _ {S : Type 0} (before : S → S → Bool) (order : Order before) where
       let q : length row ≡ length row + 0 = omega arith in
       subst (λ k. list-in (draw row (w ∷ vs)) (suc (suc k)) ≡ begun (v .label) (list-in (draw row (w ∷ vs)) (v .zero)) (list-in (draw row (w ∷ vs)) (v .one))) q
       (subst (λ (u : Vertex S). u .zero ≤ length row + 1 → u .one ≤ length row + 1 →
-          list-in (draw row (w ∷ vs)) (suc (suc (length row))) ≡ begun (u .label) (list-in (draw row (w ∷ vs)) (u .zero)) (list-in (draw row (w ∷ vs)) (u .one))) p
+      list-in (draw row (w ∷ vs)) (suc (suc (length row))) ≡ begun (u .label) (list-in (draw row (w ∷ vs)) (u .zero)) (list-in (draw row (w ∷ vs)) (u .one))) p
       (draw-first row w vs) (omega arith) (omega arith))
   draw-at row (w ∷ vs) (suc k) v e hz ho =
       let x = begun (w .label) (list-in row (w .zero)) (list-in row (w .one)) in
