@@ -1,11 +1,11 @@
 -- A list changed by a code, symbol by symbol.
-use mathlib.Core.Path.{_≡_, refl, sym, ap, ap₂, subst, _∙_}
-use mathlib.Core.Bool.{Bool, true, false, cond}
+use mathlib.Core.Path.{_≡_, refl, sym, ap, _∙_}
+use mathlib.Core.Bool.{Bool, true, false}
 use mathlib.Core.List.{List, [], _∷_}
-use mathlib.Core.Logic.{_⊎_, inl, inr, _↔_}
+use mathlib.Core.Logic.{_⊎_, inl, inr}
 use Rattle.symbols.specs.Order.{Order}
 use Rattle.ledger.specs.declared.Vertex.{Vertex}
-use Rattle.ledger.specs.Lists.{Codes, none, blank, begun, Member, Some-code, Proper}
+use Rattle.ledger.specs.Lists.{Codes, none, blank, begun, Some-code, Proper}
 use Rattle.ledger.specs.Ledger.{codes}
 use Rattle.ledger.specs.Operations.{has, takes, make, join, single}
 use Rattle.ledger.proofs.Reading.{true-false}

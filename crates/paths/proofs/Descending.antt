@@ -1,24 +1,22 @@
 -- The steps down a code's path, and the frames that they leave.
 use mathlib.Core.Path.{_≡_, refl, sym, ap, subst, _∙_}
-use mathlib.Core.Bool.{Bool, true, false}
+use mathlib.Core.Bool.{Bool, true, false, cond}
 use mathlib.Core.List.{List, [], _∷_}
 use mathlib.Core.Logic.{_⊎_, inl, inr, _≢_}
-use Prim.Native.Nat.{ℕ, _+_, _-_, _<_, _≤_}
+use Prim.Native.Nat.{ℕ, _+_, _<_, _≤_}
 use native.Mathlib.Omega.{arith}
 use native.Mathlib.Numerals.{add-one}
 use lib.ListN.{length, getD, set, drop}
 use Rattle.std.proofs.shelf.Lists.{getD-set-same, getD-set-other, drop-more, drop-all}
 use Rattle.std.proofs.shelf.Maps.{nth-read}
-use Rattle.std.specs.Finite.{nth}
 use Rattle.std.specs.Options.{mapped}
 use Rattle.std.specs.declared.option.Option.the-variants.{Some, None}
-use Rattle.symbols.specs.Order.{Order}
+use Rattle.symbols.specs.Order.{Order, same-symbol}
 use Rattle.ledger.specs.declared.Vertex.{Vertex}
-use Rattle.ledger.specs.Lists.{Codes, none, blank, begun, Proper}
+use Rattle.ledger.specs.Lists.{Codes, none, begun, Proper}
 use Rattle.ledger.specs.Diagrams.{look, parts, Good, Formed, Sound}
 use Rattle.ledger.specs.Ledger.{codes}
-use Rattle.ledger.specs.Operations.{make}
-use Rattle.ledger.proofs.Drawn.{codes-proper}
+use Rattle.ledger.specs.Operations.{has, make}
 use Rattle.memory.specs.Shelves.{vertex, LinksBelow}
 use Rattle.memory.specs.declared.work.Place.{Place}
 use Rattle.paths.specs.declared.changing.Change.{Change}
@@ -28,7 +26,8 @@ use Rattle.paths.specs.Changed.{changed, end-number}
 use Rattle.paths.specs.Framed.{frame-in}
 use Rattle.paths.specs.Waiting.{Makes, no-place, Waits, Step, Stepped}
 use Rattle.paths.proofs.Seeing.{Seen, seen, unseen}
-use Rattle.paths.proofs.Along.{make-some, changed-past-end, changed-end-none, changed-end-blank, changed-past, changed-ahead, changed-in, changed-none, changed-blank, changed-proper}
+use Rattle.paths.proofs.Leading.{differs, has-early, empty-end}
+use Rattle.paths.proofs.Along.{make-some, changed-past-end, changed-end-none, changed-end-blank, changed-past, changed-ahead, changed-in, changed-none, changed-blank}
 
 pub element : {X : Type 0} (xs : List X) (i : ℕ) → i < length xs → (x : X) × (x ≡ getD xs i x)
 element [] i h = absurd (omega arith)
@@ -41,28 +40,39 @@ rest code i x h e = drop-more code i x h ∙ ap (λ y. y ∷ drop (i + 1) code) 
 module _ {S : Type 0} (before : S → S → Bool) (order : Order before) (vs : List (Vertex S)) (code : List S) (at spot : ℕ) where
   -- a new vertex, in front of what is there
   new-vertex : (x : S) → spot < length code → x ≡ getD code spot x →
+      (Sound before vs → Good vs at → has before (codes vs at) (x ∷ drop (spot + 1) code) ≡ false) →
       (Sound before vs → Good vs at → (change : Change) → changed before change (codes vs at) (x ∷ drop (spot + 1) code) ≡ make x (codes vs at) (changed before change none (drop (spot + 1) code))) →
       Step before vs code at spot (One at spot) 0 (spot + 1)
-  new-vertex x h e w =
+  new-vertex x h e absent w =
       record {
         inside = omega arith;
         falls = omega arith;
         less = omega arith;
         good = λ s g. omega arith;
+        member = λ s g. sym (absent s g) ∙ ap (has before (codes vs at)) (sym (rest code spot x h e));
         makes = λ s g change. (x, nth-read code (length code) spot x refl h e, g, ap (changed before change (codes vs at)) (rest code spot x h e) ∙ w s g change);
       }
 
   module _ (nothing : Formed before vs → None ≡ mapped parts (look vs at)) where
     pub step-end : length code ≤ spot → Stepped before vs code at spot None
-    step-end h s g change = by (unseen before order vs s at (nothing (s .formed)) g) ∙ ap (changed before change (codes vs at)) (sym (drop-all spot code h))
+    step-end h s g = (
+      λ change. by change (unseen before order vs s at (nothing (s .formed)) g) ∙ ap (changed before change (codes vs at)) (sym (drop-all spot code h)),
+      empty-end before order vs s at (nothing (s .formed)) g ∙ ap (has before (codes vs at)) (sym (drop-all spot code h)),
+    )
       where
-        by : (at ≡ 0) ⊎ (at ≡ 1) → codes vs (end-number change) ≡ changed before change (codes vs at) []
-        by (inl p) = sym (ap (λ n. changed before change (codes vs n) []) p ∙ changed-end-none before change vs)
-        by (inr p) = sym (ap (λ n. changed before change (codes vs n) []) p ∙ changed-end-blank before change vs)
+        by : (change : Change) → (at ≡ 0) ⊎ (at ≡ 1) → codes vs (end-number change) ≡ changed before change (codes vs at) []
+        by change (inl p) = sym (ap (λ n. changed before change (codes vs n) []) p ∙ changed-end-none before change vs)
+        by change (inr p) = sym (ap (λ n. changed before change (codes vs n) []) p ∙ changed-end-blank before change vs)
 
     pub step-new-end : spot < length code → Step before vs code at spot (One at spot) 0 (spot + 1)
-    step-new-end h = let x = element code spot h in new-vertex (x .0) h (x .1) (λ s g change. by (x .0) change (unseen before order vs s at (nothing (s .formed)) g))
+    step-new-end h =
+        let x = element code spot h in
+        new-vertex (x .0) h (x .1) (λ s g. none-there (x .0) (unseen before order vs s at (nothing (s .formed)) g)) (λ s g change. by (x .0) change (unseen before order vs s at (nothing (s .formed)) g))
       where
+        none-there : (x : S) → (at ≡ 0) ⊎ (at ≡ 1) → has before (codes vs at) (x ∷ drop (spot + 1) code) ≡ false
+        none-there x (inl p) = rw p refl
+        none-there x (inr p) = rw p refl
+
         by : (x : S) (change : Change) → (at ≡ 0) ⊎ (at ≡ 1) →
             changed before change (codes vs at) (x ∷ drop (spot + 1) code) ≡ make x (codes vs at) (changed before change none (drop (spot + 1) code))
         by x change (inl p) = rw p (changed-none before change x (drop (spot + 1) code))
@@ -73,29 +83,34 @@ module _ {S : Type 0} (before : S → S → Bool) (order : Order before) (vs : L
     see s = seen before order vs s at l z o (there (s .formed))
 
     -- over the zero link
-    past-vertex : spot ≤ length code →
+    past-vertex : spot ≤ length code → has before (begun l (codes vs z) (codes vs o)) (drop spot code) ≡ has before (codes vs z) (drop spot code) →
         ((change : Change) → changed before change (begun l (codes vs z) (codes vs o)) (drop spot code) ≡ make l (changed before change (codes vs z) (drop spot code)) (codes vs o)) →
         Step before vs code at spot (Zero at) z spot
-    past-vertex h w =
+    past-vertex h m w =
         record {
           inside = h;
           falls = omega (arith, below .1);
           less = omega (arith, below .1);
           good = λ s g. see s .zero-good;
+          member = λ s g. sym (ap (λ t. has before t (drop spot code)) (see s .is) ∙ m);
           makes = λ s g change.
               let k = see s in
               (vertex l z o, k .at, ap (λ t. changed before change t (drop spot code)) (k .is) ∙ w change ∙ make-some l (changed before change (codes vs z) (drop spot code)) (codes vs o) (k .proper .1));
         }
 
     pub step-zero-end : spot ≤ length code → length code ≤ spot → Step before vs code at spot (Zero at) z spot
-    step-zero-end h e = past-vertex h (λ change. rw (drop-all spot code e) (changed-past-end before change l (codes vs z) (codes vs o)))
+    step-zero-end h e = past-vertex h (rw (drop-all spot code e) refl) (λ change. rw (drop-all spot code e) (changed-past-end before change l (codes vs z) (codes vs o)))
 
     module _ (x : S) (h : spot < length code) (e : x ≡ getD code spot x) where
       pub step-zero : before l x ≡ true → Step before vs code at spot (Zero at) z spot
-      step-zero b = past-vertex (omega arith) (λ change. rw (rest code spot x h e) (changed-past before change l (codes vs z) (codes vs o) x (drop (spot + 1) code) b))
+      step-zero b =
+          past-vertex (omega arith) (rw (rest code spot x h e) (ap (λ q. cond q (has before (codes vs o) (drop (spot + 1) code)) (has before (codes vs z) (x ∷ drop (spot + 1) code))) (differs before order l x b)))
+          (λ change. rw (rest code spot x h e) (changed-past before change l (codes vs z) (codes vs o) x (drop (spot + 1) code) b))
 
       pub step-new : before l x ≡ false → before x l ≡ true → Step before vs code at spot (One at spot) 0 (spot + 1)
-      step-new b c = new-vertex x h e (λ s g change. rw (see s .is) (changed-ahead before change l (codes vs z) (codes vs o) x (drop (spot + 1) code) b c))
+      step-new b c =
+          new-vertex x h e (λ s g. ap (λ t. has before t (x ∷ drop (spot + 1) code)) (see s .is) ∙ has-early before order (begun l (codes vs z) (codes vs o)) x (drop (spot + 1) code) (see s .proper) c)
+          (λ s g change. rw (see s .is) (changed-ahead before change l (codes vs z) (codes vs o) x (drop (spot + 1) code) b c))
 
       pub step-one : before l x ≡ false → before x l ≡ false → Step before vs code at spot (One z spot) o (spot + 1)
       step-one b c =
@@ -104,12 +119,19 @@ module _ {S : Type 0} (before : S → S → Bool) (order : Order before) (vs : L
             falls = omega (arith, below .2);
             less = omega (arith, below .2);
             good = λ s g. see s .one-good;
+            member = λ s g.
+                let same : same-symbol before l x ≡ true = rw (b, c) refl in
+                sym (ap (λ t. has before t (drop spot code)) (see s .is) ∙ ap (has before (begun l (codes vs z) (codes vs o))) (rest code spot x h e) ∙
+                ap (λ q. cond q (has before (codes vs o) (drop (spot + 1) code)) (has before (codes vs z) (x ∷ drop (spot + 1) code))) same);
             makes = λ s g change.
                 let k = see s in
-                let same : l ≡ x = order .connected l x b c in
-                (x, nth-read code (length code) spot x refl h e, k .zero-good,
+                let same : l ≡ x = order .connected l x b c in (
+                  x,
+                  nth-read code (length code) spot x refl h e,
+                  k .zero-good,
                   ap (λ t. changed before change t (drop spot code)) (k .is) ∙ ap (changed before change (begun l (codes vs z) (codes vs o))) (rest code spot x h e) ∙
-                  changed-in before change l (codes vs z) (codes vs o) x (drop (spot + 1) code) b c ∙ ap (λ y. make y (codes vs z) (changed before change (codes vs o) (drop (spot + 1) code))) same);
+                      changed-in before change l (codes vs z) (codes vs o) x (drop (spot + 1) code) b c ∙ ap (λ y. make y (codes vs z) (changed before change (codes vs o) (drop (spot + 1) code))) same,
+                );
           }
 
 -- a place above the frames is of no matter

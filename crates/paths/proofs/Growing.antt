@@ -1,9 +1,9 @@
 -- A frame makes its list: the vertex is found or appended, and the list is laid down then.
 use mathlib.Core.Path.{_≡_, refl, sym, ap, subst, subst⁻¹, _∙_}
-use mathlib.Core.Bool.{Bool, true, false}
-use mathlib.Core.List.{List, [], _∷_, _++_, append-nil, append-assoc}
-use mathlib.Core.Logic.{_⊎_, inl, inr, _≢_}
-use Prim.Native.Nat.{ℕ, suc, _+_, _<_, _≤_}
+use mathlib.Core.Bool.{Bool}
+use mathlib.Core.List.{List, [], _∷_, _++_, append-assoc}
+use mathlib.Core.Logic.{inl, inr, _≢_}
+use Prim.Native.Nat.{ℕ, suc, _<_, _≤_}
 use native.Mathlib.Omega.{arith}
 use lib.ListN.{length, getD, length-append}
 use Rattle.std.proofs.shelf.Maps.{nth-read, nth-past}
@@ -15,36 +15,27 @@ use Rattle.symbols.specs.Order.{Order}
 use Rattle.ledger.specs.declared.Vertex.{Vertex}
 use Rattle.ledger.specs.Lists.{Codes, none, blank, begun, Some-code, Proper}
 use Rattle.ledger.specs.Diagrams.{look, parts, Good, Sound}
-use Rattle.ledger.specs.Laid.{Laid, First}
-use Rattle.ledger.specs.Ledger.{lay, list-in, draw, lists, codes}
+use Rattle.ledger.specs.Laid.{Laid}
+use Rattle.ledger.specs.Ledger.{lay, lists, codes}
 use Rattle.ledger.specs.Operations.{make}
 use Rattle.ledger.proofs.Reading.{some-same, none-some}
 use Rattle.ledger.proofs.Ends.{length-snoc}
-use Rattle.ledger.proofs.Rows.{list-front, known-list, lay-known}
-use Rattle.ledger.proofs.Drawn.{draw-append, look-front, pictured}
+use Rattle.ledger.proofs.Rows.{known-list, lay-known}
+use Rattle.ledger.proofs.Draws.{codes-front}
+use Rattle.ledger.proofs.Drawn.{look-front, pictured}
 use Rattle.ledger.proofs.Laying.{laid-known, laid-found, laid-append}
 use Rattle.memory.specs.declared.shelf.Full.{Full}
-use Rattle.memory.specs.Shelves.{vertex, Appends, FoundOrAppended}
+use Rattle.memory.specs.Shelves.{vertex, FoundOrAppended}
 use Rattle.memory.proofs.Looks.{unlooked}
 use Rattle.paths.specs.declared.frames.Frame.the-variants.{Zero, One}
 use Rattle.paths.specs.Waiting.{Makes, Begins, Settled}
 use Rattle.paths.proofs.Seeing.{number-is, seen, looked-seen}
 use Rattle.paths.proofs.Along.{make-some}
 
-draw-more : {S : Type 0} (row : List (Codes S)) (vs : List (Vertex S)) → (more : List (Codes S)) × (draw row vs ≡ row ++ more)
-draw-more row [] = ([], sym (append-nil row))
-draw-more {S} row (v ∷ vs) =
-    let new : Codes S = begun (v .label) (list-in row (v .zero)) (list-in row (v .one)) in
-    let r = draw-more (row ++ new ∷ []) vs in
-    (new ∷ r .0, r .1 ∙ append-assoc row (new ∷ []) (r .0))
-
 module _ {S : Type 0} (before : S → S → Bool) (order : Order before) where
   -- more vertices change no list that had a number
-  codes-front : (vs us : List (Vertex S)) → Sound before vs → Begins vs us → (n : ℕ) → Good vs n → codes us n ≡ codes vs n
-  codes-front vs us s b n g =
-      let more = draw-more (lists vs) (b .0) in
-      let P = pictured before order vs s in
-      ap (λ r. list-in r n) (ap lists (b .1) ∙ draw-append [] vs (b .0) ∙ more .1) ∙ list-front before order (lists vs) (more .0) n (omega (arith, P .long))
+  codes-kept : (vs us : List (Vertex S)) → Begins vs us → (n : ℕ) → Good vs n → codes us n ≡ codes vs n
+  codes-kept vs us b n g = ap (λ x. codes x n) (b .1) ∙ codes-front before order vs (b .0) n g
 
   good-front : (vs us : List (Vertex S)) → Begins vs us → (n : ℕ) → Good vs n → Good us n
   good-front vs us b n g = let l = ap length (b .1) ∙ length-append vs (b .0) in omega arith
@@ -58,9 +49,10 @@ module _ {S : Type 0} (before : S → S → Bool) (order : Order before) where
         (subst⁻¹ (λ x. Settled before capacity vs (begun a z o) (Ok (f .0)) x) (f .3) (laid-found before order vs mid us sound z o rz ro outer inner a (f .0) (f .1 .0), begins))
     settle mid z o rz ro outer inner a proper capacity (Ok n) ws (inr f) =
         let l = laid-append before order vs mid us sound z o rz ro outer inner a (f .0) proper in
-        let number : n ≡ suc (suc (length us)) = omega (arith, f .1 .2) in
-        (subst⁻¹ (λ x. Laid before vs (begun a z o) x n) (f .1 .1) (subst⁻¹ (Laid before vs (begun a z o) (us ++ vertex a rz ro ∷ [])) number l),
-          (begins .0 ++ vertex a rz ro ∷ [], f .1 .1 ∙ ap (λ x. x ++ vertex a rz ro ∷ []) (begins .1) ∙ append-assoc vs (begins .0) (vertex a rz ro ∷ [])))
+        let number : n ≡ suc (suc (length us)) = omega (arith, f .1 .2) in (
+          subst⁻¹ (λ x. Laid before vs (begun a z o) x n) (f .1 .1) (subst⁻¹ (Laid before vs (begun a z o) (us ++ vertex a rz ro ∷ [])) number l),
+          (begins .0 ++ vertex a rz ro ∷ [], f .1 .1 ∙ ap (λ x. x ++ vertex a rz ro ∷ []) (begins .1) ∙ append-assoc vs (begins .0) (vertex a rz ro ∷ [])),
+        )
     settle mid z o rz ro outer inner a proper capacity (Err e) ws (inr f) =
         let l = laid-append before order vs mid us sound z o rz ro outer inner a (f .0) proper in
         let P = pictured before order (us ++ vertex a rz ro ∷ []) (l .sound) in
@@ -71,7 +63,7 @@ module _ {S : Type 0} (before : S → S → Bool) (order : Order before) where
       -- a vertex with another zero link
       grow-zero : (v : Vertex S) → Good vs (v .one) → u ≡ begun (v .label) t (codes vs (v .one)) → FoundOrAppended capacity us (vertex (v .label) n (v .one)) r ws → Settled before capacity vs u r ws
       grow-zero v g e f =
-          let inner = subst (λ x. Laid before us x us (v .one)) (codes-front vs us sound begins (v .one) g) (laid-known before order us (laid .sound) (v .one) (good-front vs us begins (v .one) g)) in
+          let inner = subst (λ x. Laid before us x us (v .one)) (codes-kept vs us begins (v .one) g) (laid-known before order us (laid .sound) (v .one) (good-front vs us begins (v .one) g)) in
           subst⁻¹ (λ x. Settled before capacity vs x r ws) e
           (settle us t (codes vs (v .one)) n (v .one) laid inner (v .label) (subst (Proper before) e proper) capacity r ws f)
 
@@ -95,13 +87,15 @@ module _ {S : Type 0} (before : S → S → Bool) (order : Order before) where
     grow-none t n laid u s m g e zero capacity =
         let nothing : t ≡ none = sym (laid .is) ∙ ap (codes us) zero in
         let same : u ≡ codes vs m = e ∙ ap (make s (codes vs m)) nothing in
-        let P = pictured before order vs sound in
-        (record {
+        let P = pictured before order vs sound in (
+          record {
             sound = laid .sound;
             row = laid .row ∙ ap (lay before (lists vs)) nothing ∙ sym (lay-known before order (lists vs) (codes vs m) (known-list before order (lists vs) m (omega (arith, P .long)))) ∙ ap (lay before (lists vs)) (sym same);
             good = good-front vs us begins m g;
-            is = codes-front vs us sound begins m g ∙ sym same;
-          }, begins)
+            is = codes-kept vs us begins m g ∙ sym same;
+          },
+          begins,
+        )
 
     old-look : (m : ℕ) (v : Vertex S) → look vs m ≡ Some v → look us m ≡ Some v
     old-look m v e = subst⁻¹ (λ x. look x m ≡ Some v) (begins .1) (look-front before order vs (begins .0) m v e)

@@ -1,22 +1,21 @@
 -- What a vertex that is read says of lists, in a sound row.
-use mathlib.Core.Path.{_≡_, refl, sym, ap, subst, _∙_}
-use mathlib.Core.Bool.{Bool, true, false}
-use mathlib.Core.List.{List, [], _∷_}
-use mathlib.Core.Logic.{_⊎_, inl, inr}
-use Prim.Native.Nat.{ℕ, suc, _+_, _≤_, _<_}
+use mathlib.Core.Path.{_≡_, sym, ap, subst, _∙_}
+use mathlib.Core.Bool.{Bool}
+use mathlib.Core.List.{List}
+use mathlib.Core.Logic.{_⊎_}
+use Prim.Native.Nat.{ℕ}
 use native.Mathlib.Omega.{arith}
-use lib.ListN.{length}
 use Rattle.std.specs.Options.{mapped}
 use Rattle.std.specs.declared.option.Option.the-variants.{Some, None}
 use Rattle.symbols.specs.Order.{Order}
 use Rattle.ledger.specs.declared.Vertex.{Vertex}
-use Rattle.ledger.specs.Lists.{Codes, none, blank, begun, Proper}
+use Rattle.ledger.specs.Lists.{Codes, begun, Proper}
 use Rattle.ledger.specs.Diagrams.{look, parts, Good, Sound}
 use Rattle.ledger.specs.Ledger.{number, lists, codes}
-use Rattle.ledger.proofs.Reading.{none-some}
-use Rattle.ledger.proofs.Canon.{Kind, is-0, is-1, is-vertex, kind, vertex-good}
+use Rattle.ledger.proofs.Canon.{vertex-good}
+use Rattle.ledger.proofs.Draws.{terminal}
 use Rattle.ledger.proofs.Rows.{number-list}
-use Rattle.ledger.proofs.Drawn.{Pictured, pictured, codes-proper}
+use Rattle.ledger.proofs.Drawn.{pictured, codes-proper}
 use Rattle.memory.specs.Shelves.{vertex}
 use Rattle.memory.proofs.Looks.{looked, unlooked}
 
@@ -51,12 +50,7 @@ module _ {S : Type 0} (before : S → S → Bool) (order : Order before) (vs : L
 
   -- a good number without a vertex is a terminal
   pub unseen : (n : ℕ) → None ≡ mapped parts (look vs n) → Good vs n → (n ≡ 0) ⊎ (n ≡ 1)
-  unseen n e g = by (kind vs n g)
-    where
-      by : Kind vs n → (n ≡ 0) ⊎ (n ≡ 1)
-      by (is-0 p) = inl p
-      by (is-1 p) = inr p
-      by (is-vertex v p) = absurd (none-some (unlooked vs n e) p)
+  unseen n e g = terminal vs n g (unlooked vs n e)
 
   -- numbers are lists
   pub number-is : (n : ℕ) → Good vs n → (t : Codes S) → codes vs n ≡ t → n ≡ number before (lists vs) t

@@ -1,17 +1,17 @@
 -- The way back up the frames.
-use mathlib.Core.Path.{_≡_, refl, sym, ap, subst, subst⁻¹, _∙_}
+use mathlib.Core.Path.{_≡_, ap, subst, subst⁻¹, _∙_}
 use mathlib.Core.Bool.{Bool, true, false}
-use mathlib.Core.List.{List, [], _∷_, _++_}
+use mathlib.Core.List.{List, [], _∷_}
 use mathlib.Core.Logic.{_⊎_, inl, inr}
-use Prim.Native.Nat.{ℕ, suc, _+_, _-_, _<_, _≤_}
+use Prim.Native.Nat.{ℕ, suc, _-_, _<_, _≤_}
 use native.Mathlib.Omega.{arith}
 use lib.ListN.{length, getD, take, length-append}
 use Rattle.std.proofs.shelf.Lists.{take-append-le, take-all}
-use Rattle.std.specs.declared.result.Result.the-variants.{Ok, Err}
+use Rattle.std.specs.declared.result.Result.the-variants.{Ok}
 use Rattle.symbols.specs.Order.{Order}
 use Rattle.ledger.specs.declared.Vertex.{Vertex}
 use Rattle.ledger.specs.Lists.{Codes, none, blank, begun, Proper}
-use Rattle.ledger.specs.Diagrams.{look, Good, Sound}
+use Rattle.ledger.specs.Diagrams.{Good, Sound}
 use Rattle.ledger.specs.Laid.{Laid}
 use Rattle.ledger.specs.Ledger.{listed, lay, lists, codes, Lays}
 use Rattle.ledger.specs.Operations.{has, make}

@@ -1,5 +1,4 @@
 -- What a place of work space holds in a walk down a code's path.
-use Prim.Native.Nat.{ℕ}
 use lib.Dec.{eqb}
 use mathlib.Core.Bool.{cond}
 use Rattle.memory.specs.declared.work.Place.{Place}

@@ -1,5 +1,6 @@
 -- What frames wait for, on the way back up a code's path.
 use Prim.Native.Nat.{ℕ, suc, _+_, _-_, _<_, _≤_}
+use lib.Dec.{eqb}
 use lib.ListN.{length, getD, drop}
 use mathlib.Core.Bool.{Bool}
 use mathlib.Core.List.{List, _++_}
@@ -14,7 +15,7 @@ use Rattle.ledger.specs.Lists.{Codes, begun, Proper}
 use Rattle.ledger.specs.Diagrams.{look, Good, Sound}
 use Rattle.ledger.specs.Laid.{Laid}
 use Rattle.ledger.specs.Ledger.{lay, lists, codes, Lays}
-use Rattle.ledger.specs.Operations.{make}
+use Rattle.ledger.specs.Operations.{has, make}
 use Rattle.memory.specs.declared.work.Place.{Place}
 use Rattle.memory.specs.declared.shelf.Full.{Full}
 use Rattle.paths.specs.declared.changing.Change.{Change}
@@ -43,12 +44,14 @@ pub record Step {S : Type 0} (before : S → S → Bool) (vs : List (Vertex S)) 
   pub falls : next + spot + 1 ≤ at + then
   pub less : next + (length code - then) < at + (length code - spot)
   pub good : Sound before vs → Good vs at → Good vs next
+  pub member : Sound before vs → Good vs at → has before (codes vs next) (drop then code) ≡ has before (codes vs at) (drop spot code)
   pub makes : Sound before vs → Good vs at → (change : Change) →
       Makes vs code frame (changed before change (codes vs next) (drop then code)) (changed before change (codes vs at) (drop spot code))
 
 abbrev pub Stepped : {S : Type 0} → (S → S → Bool) → List (Vertex S) → List S → ℕ → ℕ → Option (Frame × ℕ × ℕ) → Type 0
 Stepped before vs code at spot None =
-    Sound before vs → Good vs at → (change : Change) → codes vs (end-number change) ≡ changed before change (codes vs at) (drop spot code)
+    Sound before vs → Good vs at →
+    ((change : Change) → codes vs (end-number change) ≡ changed before change (codes vs at) (drop spot code)) × (eqb at 1 ≡ has before (codes vs at) (drop spot code))
 Stepped before vs code at spot (Some s) = Step before vs code at spot (s .0) (s .1) (s .2)
 
 -- vertices vs come first

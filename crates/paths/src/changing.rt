@@ -1,18 +1,15 @@
 // A list with a code, and without one. One walk serves both: down the code's path, a frame in the work space for each
 // vertex on it and each symbol that has none, and back up, each frame making its vertex anew. Outer lists come before
-// inner lists, so what is appended is what laying the list down appends, in its order. Two reads of a vertex and one
-// search of the shelf for each step of the path; a code that is in already, or not in, is answered by reads alone.
-ghost use lib.ListN.{length, take};
-ghost use mathlib.Core.Bool.{Bool, true, false, cond};
-ghost use mathlib.Core.List.{List, [], _∷_};
+// inner lists, so what is appended is what laying the list down appends, in its order. Down, a step costs one read of a
+// vertex; back up, at most one read and one search of the shelf. Nothing to change is known at the bottom.
+ghost use lib.ListN.{length};
 ghost use mathlib.Core.Path.{_≡_};
-ghost use Prim.Native.Nat.{ℕ, _+_, _<_, _≤_};
-ghost use Rattle.ledger.specs.Diagrams.{Good, Sound};
+ghost use Prim.Native.Nat.{_+_, _≤_};
 ghost use Rattle.ledger.specs.Ledger.{codes, Lays};
-ghost use Rattle.ledger.specs.Operations.{added, removed};
+ghost use Rattle.ledger.specs.Operations.{added, has, removed};
+ghost use Rattle.paths.specs.Asked.{WhenGood};
 ghost use Rattle.paths.specs.Changed.{changed, end-number, as-it-is};
 ghost use Rattle.paths.specs.Waiting.{Stepped, Waits, Resumed, Rebuilt};
-use crate::asking::holds;
 use crate::frames::Frame;
 use memory::reading::read_vertex;
 use memory::shelf::Full;
@@ -22,7 +19,7 @@ use symbols::Symbol;
 
 // What is done to a list with a code.
 #[derive(Clone, Copy)]
-pub enum Change {
+enum Change {
     Add,
     Remove,
 }
@@ -77,11 +74,18 @@ fn step<S: Symbol, B: Shelf<S>>(
     Some((Frame::One { zero, spot }, one, spot + 1))
 }
 
-// Walks down the code's path, a frame for each step; how many frames.
-fn descend<S: Symbol, B: Shelf<S>>(shelf: &B, list: u32, code: &[S], work: &mut [Place]) -> usize
+// What a walk down leaves: so many frames, and whether the code is in the list.
+struct Descent {
+    height: usize,
+    held: bool,
+}
+
+// Walks down the code's path, a frame for each step. A path that leaves the vertices ends at terminal 0.
+fn descend<S: Symbol, B: Shelf<S>>(shelf: &B, list: u32, code: &[S], work: &mut [Place]) -> Descent
     requires { ⌜ list + length (now code) ≤ length (now work) ⌝ }
-    ensures within { λ r. ⌜ r ≤ length (now (work .exit)) ⌝ }
-    ensures waits { λ r. ⌜ (Sound (S·Symbol .before) (B·Shelf .vertices (now (shelf .entry))) → Good (B·Shelf .vertices (now (shelf .entry))) list → (change : Change) → Waits (S·Symbol .before) (B·Shelf .vertices (now (shelf .entry))) (now (code .entry)) (now (work .exit)) r (codes (B·Shelf .vertices (now (shelf .entry))) (end-number change)) (changed (S·Symbol .before) change (codes (B·Shelf .vertices (now (shelf .entry))) list) (now (code .entry)))) ⌝ }
+    ensures within { λ r. ⌜ r .height ≤ length (now (work .exit)) ⌝ }
+    ensures member { λ r. ⌜ WhenGood (S·Symbol .before) (B·Shelf .vertices (now (shelf .entry))) list (λ t. r .held ≡ has (S·Symbol .before) t (now (code .entry))) ⌝ }
+    ensures waits { λ r. ⌜ WhenGood (S·Symbol .before) (B·Shelf .vertices (now (shelf .entry))) list (λ t. (change : Change) → Waits (S·Symbol .before) (B·Shelf .vertices (now (shelf .entry))) (now (code .entry)) (now (work .exit)) (r .height) (codes (B·Shelf .vertices (now (shelf .entry))) (end-number change)) (changed (S·Symbol .before) change t (now (code .entry)))) ⌝ }
 {
     let mut height = 0;
     let mut at = list;
@@ -92,7 +96,10 @@ fn descend<S: Symbol, B: Shelf<S>>(shelf: &B, list: u32, code: &[S], work: &mut 
         at = next;
         spot = then;
     }
-    height
+    Descent {
+        height,
+        held: at == 1,
+    }
 }
 
 // The number of the list that a frame waited to make, once what it waited for has its number; no vertex has one link 0.
@@ -163,15 +170,14 @@ fn alter<S: Symbol, B: Shelf<S>>(
     work: &mut [Place],
 ) -> Result<u32, Full>
     requires { ⌜ list + length (now code) ≤ length (now work) ⌝ }
-    ensures answer { λ r. ⌜ (B·Shelf .ready (now (shelf .entry)) → Sound (S·Symbol .before) (B·Shelf .vertices (now (shelf .entry))) → Good (B·Shelf .vertices (now (shelf .entry))) list → Lays (S·Symbol .before) (B·Shelf .capacity (now (shelf .entry))) (B·Shelf .vertices (now (shelf .entry))) (changed (S·Symbol .before) change (codes (B·Shelf .vertices (now (shelf .entry))) list) (now (code .entry))) r (B·Shelf .vertices (now (shelf .exit)))) ⌝ }
+    ensures answer { λ r. ⌜ (B·Shelf .ready (now (shelf .entry)) → WhenGood (S·Symbol .before) (B·Shelf .vertices (now (shelf .entry))) list (λ t. Lays (S·Symbol .before) (B·Shelf .capacity (now (shelf .entry))) (B·Shelf .vertices (now (shelf .entry))) (changed (S·Symbol .before) change t (now (code .entry))) r (B·Shelf .vertices (now (shelf .exit))))) ⌝ }
     ensures ready { λ _. ⌜ (B·Shelf .ready (now (shelf .entry)) → B·Shelf .ready (now (shelf .exit))) ⌝ }
     ensures size { λ _. ⌜ B·Shelf .capacity (now (shelf .exit)) ≡ B·Shelf .capacity (now (shelf .entry)) ⌝ }
 {
-    let held = holds(shelf, list, code);
+    let Descent { height, held } = descend(shelf, list, code, work);
     if settled(change, held) {
         return Ok(list);
     }
-    let height = descend(shelf, list, code, work);
     rebuild(shelf, code, work, height, end_of(change))
 }
 
@@ -183,7 +189,7 @@ pub fn add<S: Symbol, B: Shelf<S>>(
     work: &mut [Place],
 ) -> Result<u32, Full>
     requires { ⌜ list + length (now code) ≤ length (now work) ⌝ }
-    ensures answer { λ r. ⌜ (B·Shelf .ready (now (shelf .entry)) → Sound (S·Symbol .before) (B·Shelf .vertices (now (shelf .entry))) → Good (B·Shelf .vertices (now (shelf .entry))) list → Lays (S·Symbol .before) (B·Shelf .capacity (now (shelf .entry))) (B·Shelf .vertices (now (shelf .entry))) (added (S·Symbol .before) (codes (B·Shelf .vertices (now (shelf .entry))) list) (now (code .entry))) r (B·Shelf .vertices (now (shelf .exit)))) ⌝ }
+    ensures answer { λ r. ⌜ (B·Shelf .ready (now (shelf .entry)) → WhenGood (S·Symbol .before) (B·Shelf .vertices (now (shelf .entry))) list (λ t. Lays (S·Symbol .before) (B·Shelf .capacity (now (shelf .entry))) (B·Shelf .vertices (now (shelf .entry))) (added (S·Symbol .before) t (now (code .entry))) r (B·Shelf .vertices (now (shelf .exit))))) ⌝ }
     ensures ready { λ _. ⌜ (B·Shelf .ready (now (shelf .entry)) → B·Shelf .ready (now (shelf .exit))) ⌝ }
     ensures size { λ _. ⌜ B·Shelf .capacity (now (shelf .exit)) ≡ B·Shelf .capacity (now (shelf .entry)) ⌝ }
 {
@@ -198,7 +204,7 @@ pub fn remove<S: Symbol, B: Shelf<S>>(
     work: &mut [Place],
 ) -> Result<u32, Full>
     requires { ⌜ list + length (now code) ≤ length (now work) ⌝ }
-    ensures answer { λ r. ⌜ (B·Shelf .ready (now (shelf .entry)) → Sound (S·Symbol .before) (B·Shelf .vertices (now (shelf .entry))) → Good (B·Shelf .vertices (now (shelf .entry))) list → Lays (S·Symbol .before) (B·Shelf .capacity (now (shelf .entry))) (B·Shelf .vertices (now (shelf .entry))) (removed (S·Symbol .before) (codes (B·Shelf .vertices (now (shelf .entry))) list) (now (code .entry))) r (B·Shelf .vertices (now (shelf .exit)))) ⌝ }
+    ensures answer { λ r. ⌜ (B·Shelf .ready (now (shelf .entry)) → WhenGood (S·Symbol .before) (B·Shelf .vertices (now (shelf .entry))) list (λ t. Lays (S·Symbol .before) (B·Shelf .capacity (now (shelf .entry))) (B·Shelf .vertices (now (shelf .entry))) (removed (S·Symbol .before) t (now (code .entry))) r (B·Shelf .vertices (now (shelf .exit))))) ⌝ }
     ensures ready { λ _. ⌜ (B·Shelf .ready (now (shelf .entry)) → B·Shelf .ready (now (shelf .exit))) ⌝ }
     ensures size { λ _. ⌜ B·Shelf .capacity (now (shelf .exit)) ≡ B·Shelf .capacity (now (shelf .entry)) ⌝ }
 {

@@ -1,4 +1,4 @@
-use mathlib.Core.Path.{_≡_, refl, sym, _∙_}
+use mathlib.Core.Path.{sym, _∙_}
 use Rattle.paths.proofs.Leading.{lead-past, lead-early, lead-in, lead-out}
 use Rattle.paths.proofs.asking.after_symbol.Needs as need
 

@@ -1,4 +1,4 @@
-use mathlib.Core.Path.{_≡_, refl, sym, _∙_}
+use mathlib.Core.Path.{sym, _∙_}
 use Rattle.paths.proofs.Leading.{empty-past, empty-end}
 use Rattle.paths.proofs.asking.has_empty.Needs as need
 

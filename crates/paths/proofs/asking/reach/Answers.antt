@@ -1,7 +1,3 @@
-use mathlib.Core.Path.{_≡_, refl, sym, _∙_}
-use native.Mathlib.Omega.{arith}
-use Prim.Native.Nat.{_<_}
-use lib.ListN.{length}
 use Rattle.paths.proofs.Leading.{lead-none, lead-more, led, led-number, led-member}
 use Rattle.paths.proofs.asking.reach.Needs as need
 

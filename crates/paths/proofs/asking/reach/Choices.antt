@@ -1,9 +1,8 @@
 use lib.ListN.{take}
-use Rattle.ledger.specs.Diagrams.{Good, Sound}
-use Rattle.paths.specs.Asked.{LeadsOn}
+use Rattle.paths.specs.Asked.{WhenGood, Leads}
 use Rattle.paths.proofs.asking.reach.Given as given
 
 abbrev pub Inv-loop-symbol : given.InvT-loop-symbol
 Inv-loop-symbol g l =
-    Sound (g .S·Symbol .before) (g .B·Shelf .vertices (l .shelf)) → Good (g .B·Shelf .vertices (l .shelf)) (l .list) →
-    LeadsOn (g .S·Symbol .before) (g .B·Shelf .vertices (l .shelf)) (l .list) (take (l .symbol-index) (l .code)) (l .at)
+    WhenGood (g .S·Symbol .before) (g .B·Shelf .vertices (l .shelf)) (l .list)
+    (λ t. Leads (g .S·Symbol .before) (g .B·Shelf .vertices (l .shelf)) t (take (l .symbol-index) (l .code)) (l .at))

@@ -14,11 +14,11 @@ Inv-loop-left g l =
     (g .B·Shelf .capacity (l .shelf) ≡ g .B·Shelf .capacity (l .entry .shelf)) ×
     (g .B·Shelf .ready (l .entry .shelf) → g .B·Shelf .ready (l .shelf)) ×
     (g .B·Shelf .ready (l .entry .shelf) → (whole : Codes (g .S .Denot)) →
-        Sound (g .S·Symbol .before) (g .B·Shelf .vertices (l .entry .shelf)) → Good (g .B·Shelf .vertices (l .entry .shelf)) (l .end) →
-        Waits (g .S·Symbol .before) (g .B·Shelf .vertices (l .entry .shelf)) (l .code) (l .work) (l .height) (codes (g .B·Shelf .vertices (l .entry .shelf)) (l .end)) whole →
-        (t : Codes (g .S .Denot)) × Laid (g .S·Symbol .before) (g .B·Shelf .vertices (l .entry .shelf)) t (g .B·Shelf .vertices (l .shelf)) (l .number) ×
-        Begins (g .B·Shelf .vertices (l .entry .shelf)) (g .B·Shelf .vertices (l .shelf)) ×
-        Waits (g .S·Symbol .before) (g .B·Shelf .vertices (l .entry .shelf)) (l .code) (l .work) (l .left) t whole)
+    Sound (g .S·Symbol .before) (g .B·Shelf .vertices (l .entry .shelf)) → Good (g .B·Shelf .vertices (l .entry .shelf)) (l .end) →
+    Waits (g .S·Symbol .before) (g .B·Shelf .vertices (l .entry .shelf)) (l .code) (l .work) (l .height) (codes (g .B·Shelf .vertices (l .entry .shelf)) (l .end)) whole →
+    (t : Codes (g .S .Denot)) × Laid (g .S·Symbol .before) (g .B·Shelf .vertices (l .entry .shelf)) t (g .B·Shelf .vertices (l .shelf)) (l .number) ×
+    Begins (g .B·Shelf .vertices (l .entry .shelf)) (g .B·Shelf .vertices (l .shelf)) ×
+    Waits (g .S·Symbol .before) (g .B·Shelf .vertices (l .entry .shelf)) (l .code) (l .work) (l .left) t whole)
 
 abbrev pub μ-loop-left : given.MeasureT-loop-left
 μ-loop-left g l = l .left

@@ -1,4 +1,4 @@
-use mathlib.Core.Path.{refl, sym, subst}
+use mathlib.Core.Path.{refl, subst}
 use Rattle.paths.specs.declared.frames.Frame.{Frame}
 use Rattle.paths.specs.Waiting.{Makes}
 use Rattle.paths.proofs.Growing.{resume-zero, zero-there, resume-one, resume-none, symbol-there}
