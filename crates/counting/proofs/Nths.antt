@@ -12,7 +12,8 @@ use Rattle.std.specs.declared.option.Option.{Option}
 use Rattle.std.specs.declared.option.Option.the-variants.{Some, None}
 use Rattle.ledger.specs.Lists.{Codes, none, blank, begun}
 use Rattle.ledger.specs.Ordered.{ordered, later-codes, with-empty, blank-in}
-use Rattle.counting.specs.Picks.{one-if}
+use mir.Val.{boolByte}
+use Rattle.counting.proofs.Sizes.{length-begun}
 
 nth-left : {A : Type 0} (xs ys : List A) (k : ℕ) → k < length xs → nth (xs ++ ys) k ≡ nth xs k
 nth-left [] ys k h = absurd (omega arith)
@@ -40,17 +41,21 @@ nth-some [] k h = absurd (omega arith)
 nth-some (x ∷ xs) zero h = (x, refl)
 nth-some (x ∷ xs) (suc k) h = nth-some xs k (omega arith)
 
-nth-with : {S : Type 0} (b : Bool) (l : List (List S)) (k : ℕ) → nth (with-empty b l) (k + one-if b) ≡ nth l k
-nth-with true l k = let e : k + 1 ≡ suc k = omega arith in ap (nth ([] ∷ l)) e
-nth-with false l k = let e : k + 0 ≡ k = omega arith in ap (nth l) e
+nth-with : {S : Type 0} (b : Bool) (l : List (List S)) (k : ℕ) → nth (with-empty b l) (boolByte b + k) ≡ nth l k
+nth-with true l k = let e : 1 + k ≡ suc k = omega arith in ap (nth ([] ∷ l)) e
+nth-with false l k = let e : 0 + k ≡ k = omega arith in ap (nth l) e
 
 -- the empty code comes first
-pub nth-blank : {S : Type 0} (t : Codes S) → blank-in t ≡ true → nth (ordered t) 0 ≡ Some []
-nth-blank t e = ap (λ b. nth (with-empty b (later-codes t)) 0) e
+pub nth-blank : {S : Type 0} (t : Codes S) (k : ℕ) → k < boolByte (blank-in t) → nth (ordered t) k ≡ Some []
+nth-blank t k h = by (blank-in t) h
+  where
+    by : (b : Bool) → k < boolByte b → nth (with-empty b (later-codes t)) k ≡ Some []
+    by true l = let e : k ≡ 0 = omega arith in ap (nth ([] ∷ later-codes t)) e
+    by false l = absurd (omega arith)
 
--- then those that begin with the head
+-- then come those that begin with the head
 pub nth-inner : {S : Type 0} (a : S) (z o : Codes S) (k : ℕ) → k < length (ordered o) →
-    nth (ordered (begun a z o)) (k + one-if (blank-in z)) ≡ mapped (λ c. a ∷ c) (nth (ordered o) k)
+    nth (ordered (begun a z o)) (boolByte (blank-in z) + k) ≡ mapped (λ c. a ∷ c) (nth (ordered o) k)
 nth-inner a z o k h =
     let l = length-map (ordered o) (λ c. a ∷ c) in
     nth-with (blank-in z) (map (λ c. a ∷ c) (ordered o) ++ later-codes z) k ∙
@@ -59,9 +64,26 @@ nth-inner a z o k h =
 
 -- then the others
 pub nth-outer : {S : Type 0} (a : S) (z o : Codes S) (k : ℕ) →
-    nth (ordered (begun a z o)) (length (ordered o) + k + one-if (blank-in z)) ≡ nth (ordered z) (k + one-if (blank-in z))
+    nth (ordered (begun a z o)) (boolByte (blank-in z) + (length (ordered o) + k)) ≡ nth (ordered z) (boolByte (blank-in z) + k)
 nth-outer a z o k =
     nth-with (blank-in z) (map (λ c. a ∷ c) (ordered o) ++ later-codes z) (length (ordered o) + k) ∙
     ap (λ n. nth (map (λ c. a ∷ c) (ordered o) ++ later-codes z) (n + k)) (sym (length-map (ordered o) (λ c. a ∷ c))) ∙
     nth-right (map (λ c. a ∷ c) (ordered o)) (later-codes z) k ∙
     sym (nth-with (blank-in z) (later-codes z) k)
+
+module _ {S : Type 0} (t : Codes S) (a : S) (z o : Codes S) (is : t ≡ begun a z o) (k later : ℕ) (at-k : k ≡ boolByte (blank-in t) + later) where
+  -- the same with a list that is known to be begun
+  past-empty : k ≡ boolByte (blank-in z) + later
+  past-empty = at-k ∙ ap (λ u. boolByte (blank-in u) + later) is
+
+  pub turn-inner : later < length (ordered o) → nth (ordered t) k ≡ mapped (λ c. a ∷ c) (nth (ordered o) later)
+  turn-inner h = ap (λ u. nth (ordered u) k) is ∙ ap (nth (ordered (begun a z o))) past-empty ∙ nth-inner a z o later h
+
+  module _ (left : ℕ) (from : later ≡ length (ordered o) + left) where
+    pub turn-outer : nth (ordered t) k ≡ nth (ordered z) (boolByte (blank-in t) + left)
+    turn-outer =
+        ap (λ u. nth (ordered u) k) is ∙ ap (nth (ordered (begun a z o))) (past-empty ∙ ap (λ n. boolByte (blank-in z) + n) from) ∙
+        nth-outer a z o left ∙ ap (λ u. nth (ordered z) (boolByte (blank-in u) + left)) (sym is)
+
+    pub outer-stands : k < length (ordered t) → boolByte (blank-in t) + left < length (ordered z)
+    outer-stands h = let size = ap (λ u. length (ordered u)) is ∙ length-begun a z o in omega arith

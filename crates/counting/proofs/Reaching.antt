@@ -20,6 +20,7 @@ use Rattle.ledger.proofs.Least.{vertex-from-2}
 use Rattle.memory.specs.declared.work.Place.{Place}
 use Rattle.memory.specs.Shelves.{is-mark}
 use Rattle.counting.specs.Tallies.{vacant}
+use mir.Val.{boolByte}
 use Rattle.counting.specs.Marks.{marked-place, OnlyMarked, Unmarked, Visited}
 
 abbrev mark-at : List Place → ℕ → Bool
@@ -127,10 +128,6 @@ module _ {S : Type 0} (vs : List (Vertex S)) (list m r : ℕ) (counts : Counts (
       by k f (yes e) = List·Memᴰ·head e
       by k f (no g) = let low = f .0 in List·Memᴰ·tail (counts .whole k (omega arith, f .1))
 
-abbrev pub one-if : Bool → ℕ
-one-if true = 1
-one-if false = 0
-
 module _ {S : Type 0} (before : S → S → Bool) (vs : List (Vertex S)) (formed : Formed before vs) (list : ℕ) where
   pub reaching-start : (work : List Place) → OnlyMarked list work → Reaching vs list (list + 1) work 0
   reaching-start work only =
@@ -234,7 +231,7 @@ module _ {S : Type 0} (before : S → S → Bool) (vs : List (Vertex S)) (formed
           by-mark i h j low a q (no f) = (j, omega arith, stays-marked j a, q)
 
   pub reaching-more : (m : ℕ) (work after : List Place) (r : ℕ) (b : Bool) → m < length work → Reaching vs list (m + 1) work r → Visited vs m work b after →
-      Reaching vs list m after (r + one-if b)
+      Reaching vs list m after (r + boolByte b)
   reaching-more m work after r true inside k u = subst⁻¹ (λ w. Reaching vs list m w (r + 1)) (u .1 .2) (came-to m work r k (u .1 .0) (u .1 .1) (u .0) inside)
   reaching-more m work after r false inside k u =
       let e : r + 0 ≡ r = omega arith in

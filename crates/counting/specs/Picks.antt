@@ -1,6 +1,5 @@
 -- The code with k before it, and the walk that writes it.
 use mathlib.Core.Path.{_≡_}
-use mathlib.Core.Bool.{Bool, true, false}
 use mathlib.Core.List.{List, [], _∷_, _++_}
 use mathlib.Core.Logic.{_⊎_}
 use Prim.Native.Nat.{ℕ, suc, _+_, _<_, _≤_, _^_}
@@ -44,14 +43,14 @@ abbrev pub PickKeeps : {S : Type 0} → List S → Result ℕ PickFault → List
 PickKeeps entry (Ok n) exit = (n ≤ 64) × (drop n exit ≡ drop n entry)
 PickKeeps entry (Err e) exit = exit ≡ entry
 
-abbrev pub one-if : Bool → ℕ
-one-if true = 1
-one-if false = 0
+-- what is left of a number without n
+abbrev pub LeftOf : ℕ → ℕ → Option ℕ → Type 0
+LeftOf before n None = before < n
+LeftOf before n (Some left) = before ≡ n + left
 
--- of so many codes, the empty one is taken off
-abbrev pub Past : ℕ → Bool → Option ℕ → Type 0
-Past before empty None = (empty ≡ true) × (before ≡ 0)
-Past before empty (Some later) = before ≡ later + one-if empty
+abbrev pub AtMost : ℕ → Option ℕ → Type 0
+AtMost before None = Unit {0}
+AtMost before (Some left) = left ≤ before
 
 -- a list with a code that has so many before it
 abbrev pub Stands : {S : Type 0} → List (Vertex S) → ℕ → ℕ → Type 0

@@ -6,8 +6,8 @@ ghost use mathlib.Core.Path.{_≡_};
 ghost use Rattle.ledger.specs.Diagrams.{Good, Sound};
 ghost use Rattle.ledger.specs.Ledger.{codes};
 ghost use Rattle.ledger.specs.Ordered.{ordered};
-ghost use Rattle.counting.specs.Tallies.{Tallied};
-ghost use Rattle.counting.specs.Picks.{Advances, Falls, Keeps, Leads, Lower, Past, Picked, PickKeeps, Short, Stands, Writes};
+ghost use Rattle.counting.specs.Tallies.{Counted, Tallied};
+ghost use Rattle.counting.specs.Picks.{Advances, AtMost, Falls, Keeps, Leads, LeftOf, Lower, Picked, PickKeeps, Short, Stands, Writes};
 use crate::tallying::tally_at;
 use crate::tallying::tally_up_to;
 use memory::reading::read_vertex;
@@ -41,14 +41,12 @@ enum Turn<S> {
     Takes(S, u32, u64),
 }
 
-// How many of the codes before this one are not empty; nothing where this one is empty itself.
-fn past_empty(before: u64, empty: bool) -> Option<u64>
-    ensures { λ r. ⌜ Past before empty r ⌝ }
+// How many codes are left of those before, without these; nothing where these are more.
+fn left_of(before: u64, these: Option<u64>) -> Option<u64>
+    ensures small { λ r. ⌜ AtMost before r ⌝ }
+    ensures value { λ r. ⌜ ((n : ℕ) → Counted n these → LeftOf before n r) ⌝ }
 {
-    if !empty {
-        return Some(before);
-    }
-    before.checked_sub(1)
+    before.checked_sub(these?)
 }
 
 // The turn at a list.
@@ -60,13 +58,14 @@ fn turn_at<S: Symbol, B: Shelf<S>>(shelf: &B, list: u32, before: u64, work: &[Pl
     let Some((label, zero, one)) = read_vertex(shelf, list) else {
         return Turn::Ends;
     };
-    let Some(later) = past_empty(before, tally_at(work, list).empty) else {
+    let empty = u64::from(tally_at(work, list).empty);
+    let Some(later) = before.checked_sub(empty) else {
         return Turn::Ends;
     };
-    match tally_at(work, one).codes {
-        Some(inner) if inner <= later => Turn::Passes(zero, before - inner),
-        _ => Turn::Takes(label, one, later),
-    }
+    let Some(left) = left_of(later, tally_at(work, one).codes) else {
+        return Turn::Takes(label, one, later);
+    };
+    Turn::Passes(zero, empty + left)
 }
 
 fn put<S: Symbol>(out: &mut [S], at: usize, symbol: S)

@@ -3,8 +3,9 @@ use mathlib.Core.Bool.{Bool, true, false}
 use Prim.Native.Nat.{ℕ, _+_, _-_, _≤_}
 use native.Mathlib.Omega.{arith}
 use Rattle.ledger.specs.Diagrams.{Formed}
+use mir.Val.{boolByte}
 use Rattle.counting.specs.Marks.{OnlyMarked}
-use Rattle.counting.proofs.Reaching.{one-if, Reaching, reaching-start, reaching-more, reaching-end}
+use Rattle.counting.proofs.Reaching.{Reaching, reaching-start, reaching-more, reaching-end}
 use Rattle.counting.proofs.marking.count_down.Needs as need
 use Rattle.counting.proofs.marking.count_down.Needs.{then-visit, else-visit}
 
@@ -20,7 +21,7 @@ loop-n-again g c = elim (c .if-visit .came) [
     | else-visit w ↦ step false (w .if-visit .left) (let e = w .reached-is in omega arith)
   ]
   where
-    step : (b : Bool) → c .visit .result ≡ b → c .if-visit .reached ≡ c .loop-n .reached + one-if b →
+    step : (b : Bool) → c .visit .result ≡ b → c .if-visit .reached ≡ c .loop-n .reached + boolByte b →
         (c .if-visit .reached + (c .loop-n .n - 1) ≤ c .args .list) ×
         (Formed (g .S·Symbol .before) (g .B·Shelf .vertices (c .args .shelf .now)) → OnlyMarked (c .args .list) (c .args .work .now) →
         Reaching (g .B·Shelf .vertices (c .args .shelf .now)) (c .args .list) (c .loop-n .n - 1 + 1) (c .visit .last .work) (c .if-visit .reached))
@@ -32,10 +33,10 @@ loop-n-again g c = elim (c .if-visit .came) [
           reaching-more (g .S·Symbol .before) (g .B·Shelf .vertices (c .args .shelf .now)) formed (c .args .list) (c .loop-n .n) (c .loop-n .work) (c .visit .last .work) (c .loop-n .reached) (c .visit .result)
           (omega arith) (c .loop-n .inv .1 formed only) (c .visit .ensures formed) in
           subst⁻¹ (λ m. Reaching (g .B·Shelf .vertices (c .args .shelf .now)) (c .args .list) m (c .visit .last .work) (c .if-visit .reached)) down
-          (subst (λ m. Reaching (g .B·Shelf .vertices (c .args .shelf .now)) (c .args .list) (c .loop-n .n) (c .visit .last .work) m) (ap (λ x. c .loop-n .reached + one-if x) e ∙ sym r) more),
+          (subst (λ m. Reaching (g .B·Shelf .vertices (c .args .shelf .now)) (c .args .list) (c .loop-n .n) (c .visit .last .work) m) (ap (λ x. c .loop-n .reached + boolByte x) e ∙ sym r) more),
     )
       where
-        few : (b : Bool) → c .if-visit .reached ≡ c .loop-n .reached + one-if b → c .if-visit .reached + (c .loop-n .n - 1) ≤ c .args .list
+        few : (b : Bool) → c .if-visit .reached ≡ c .loop-n .reached + boolByte b → c .if-visit .reached + (c .loop-n .n - 1) ≤ c .args .list
         few true r = omega arith
         few false r = omega arith
 
