@@ -7,6 +7,8 @@ use Prim.Native.Nat.{ℕ, zero, suc, _+_, _≤_, _<_}
 use native.Mathlib.Decide.{ℕ-discrete}
 use native.Mathlib.Omega.{arith}
 use borrow.Author.Count.{below-more}
+use borrow.Author.Tests.{eqb-true, eq-eqb, ne-eqb}
+use lib.Dec.{eqb}
 use lib.ListN.{length, getD, set, length-set}
 use lib.Seq.{getD-set-same, getD-set-other}
 use Rattle.std.specs.declared.option.Option.{Option}
@@ -18,7 +20,8 @@ use Rattle.ledger.proofs.Least.{vertex-from-2}
 use Rattle.memory.specs.declared.work.Place.{Place}
 use Rattle.memory.specs.Shelves.{is-mark}
 use Rattle.counting.specs.Tallies.{vacant}
-use Rattle.counting.specs.Marks.{marked-place, Unmarked, Visited}
+use mir.Val.{boolByte}
+use Rattle.counting.specs.Marks.{marked-place, OnlyMarked, Unmarked, Visited}
 
 abbrev mark-at : List Place → ℕ → Bool
 mark-at work k = is-mark (getD work k vacant)
@@ -50,6 +53,13 @@ unmarked-more work n inside clear =
     below-more (λ k. mark-at (set work n vacant) k ≡ false) n
     (λ k h. let ne : k ≢ n = omega arith in ap is-mark (getD-set-other work n k vacant vacant ne) ∙ clear k h)
     (ap is-mark (getD-set-same work n vacant vacant inside))
+
+pub only-marked : (work : List Place) (list : ℕ) → list < length work → Unmarked (list + 1) work → OnlyMarked list (set work list marked-place)
+only-marked work list inside clear k low = by (ℕ-discrete k list)
+  where
+    by : Dec (k ≡ list) → mark-at (set work list marked-place) k ≡ eqb k list
+    by (yes e) = subst⁻¹ (λ j. mark-at (set work list marked-place) j ≡ true) e (mark-here work list inside) ∙ sym (eq-eqb k list e)
+    by (no f) = mark-there work list k f ∙ clear k (omega arith) ∙ sym (ne-eqb k list f)
 
 -- what is reached from what is reached is reached
 reached-then : {S : Type 0} {vs : List (Vertex S)} {a b k : ℕ} → Reached vs a b → Reached vs b k → Reached vs a k
@@ -118,16 +128,12 @@ module _ {S : Type 0} (vs : List (Vertex S)) (list m r : ℕ) (counts : Counts (
       by k f (yes e) = List·Memᴰ·head e
       by k f (no g) = let low = f .0 in List·Memᴰ·tail (counts .whole k (omega arith, f .1))
 
-abbrev pub one-if : Bool → ℕ
-one-if true = 1
-one-if false = 0
-
 module _ {S : Type 0} (before : S → S → Bool) (vs : List (Vertex S)) (formed : Formed before vs) (list : ℕ) where
-  pub reaching-start : (work : List Place) → list < length work → Unmarked (list + 1) work → Reaching vs list (list + 1) (set work list marked-place) 0
-  reaching-start work inside clear =
+  pub reaching-start : (work : List Place) → OnlyMarked list work → Reaching vs list (list + 1) work 0
+  reaching-start work only =
       record {
-        sound = λ k v h m p. by k v h p (mark-cases work list k m);
-        whole = λ k h r. (list, omega arith, mark-here work list inside, r);
+        sound = λ k v h m p. let e : k ≡ list = eqb-true k list (sym (only k (omega arith)) ∙ m) in itself v (subst (λ j. look vs j ≡ Some v) e p) (sym e);
+        whole = λ k h r. (list, omega arith, only list (omega arith) ∙ eq-eqb list list refl, r);
         many =
             record {
               them = [];
@@ -137,10 +143,6 @@ module _ {S : Type 0} (before : S → S → Bool) (vs : List (Vertex S)) (formed
               many = refl;
             };
       }
-    where
-      by : (k : ℕ) (v : Vertex S) → k < list + 1 → look vs k ≡ Some v → (k ≡ list) ⊎ (mark-at work k ≡ true) → Reached vs list k
-      by k v h p (inl e) = itself v (subst (λ j. look vs j ≡ Some v) e p) (sym e)
-      by k v h p (inr m) = absurd (true-false m (clear k h))
 
   pub reaching-end : (n : ℕ) (work : List Place) (r : ℕ) → n ≤ 2 → Reaching vs list n work r → Counts (Reached vs list) r
   reaching-end n work r low k =
@@ -229,7 +231,7 @@ module _ {S : Type 0} (before : S → S → Bool) (vs : List (Vertex S)) (formed
           by-mark i h j low a q (no f) = (j, omega arith, stays-marked j a, q)
 
   pub reaching-more : (m : ℕ) (work after : List Place) (r : ℕ) (b : Bool) → m < length work → Reaching vs list (m + 1) work r → Visited vs m work b after →
-      Reaching vs list m after (r + one-if b)
+      Reaching vs list m after (r + boolByte b)
   reaching-more m work after r true inside k u = subst⁻¹ (λ w. Reaching vs list m w (r + 1)) (u .1 .2) (came-to m work r k (u .1 .0) (u .1 .1) (u .0) inside)
   reaching-more m work after r false inside k u =
       let e : r + 0 ≡ r = omega arith in

@@ -1,5 +1,5 @@
--- How many codes a list has, from its outer and its inner list; and its codes one by one.
-use mathlib.Core.Path.{_≡_, refl, sym, ap, subst, _∙_}
+-- How many codes a list has, from its outer and its inner list.
+use mathlib.Core.Path.{_≡_, refl, sym, ap, subst, subst⁻¹, _∙_}
 use mathlib.Core.Bool.{Bool, true, false, cond}
 use mathlib.Core.List.{List, [], _∷_, _++_, map}
 use mathlib.Core.Logic.{_≢_}
@@ -9,27 +9,25 @@ use borrow.Author.Count.{below-more}
 use lib.Dec.{eqb}
 use lib.ListN.{length, getD, set, length-append, length-map}
 use lib.Seq.{getD-set-same, getD-set-other}
-use Rattle.std.specs.Finite.{nth}
+use Rattle.std.specs.Options.{mapped}
 use Rattle.std.specs.declared.option.Option.{Option}
 use Rattle.std.specs.declared.option.Option.the-variants.{Some, None}
 use Rattle.symbols.specs.Order.{Order}
 use Rattle.ledger.specs.Lists.{Codes, none, blank, begun}
 use Rattle.ledger.specs.declared.Vertex.{Vertex}
-use Rattle.ledger.specs.Diagrams.{look, Good, Sound}
+use Rattle.ledger.specs.Diagrams.{look, parts, Good, Sound}
 use Rattle.ledger.specs.Ledger.{codes}
 use Rattle.ledger.specs.Ordered.{ordered, later-codes, with-empty, blank-in}
 use Rattle.ledger.proofs.Reading.{none-some}
 use Rattle.ledger.proofs.Canon.{Kind, is-0, is-1, is-vertex, kind}
 use Rattle.ledger.proofs.Drawn.{pictured}
 use Rattle.memory.specs.declared.work.Place.{Place}
+use Rattle.memory.proofs.Looks.{looked}
 use Rattle.counting.specs.declared.tallying.Tally.{Tally}
+use mir.Val.{boolByte}
 use Rattle.counting.specs.Tallies.{Counted, Tells, Tallied, held, vacant}
 
-abbrev ones : Bool → ℕ
-ones true = 1
-ones false = 0
-
-length-with : {S : Type 0} (b : Bool) (l : List (List S)) → length (with-empty b l) ≡ ones b + length l
+length-with : {S : Type 0} (b : Bool) (l : List (List S)) → length (with-empty b l) ≡ boolByte b + length l
 length-with true l = omega arith
 length-with false l = omega arith
 
@@ -43,12 +41,11 @@ length-begun a z o =
     omega arith
 
 module _ {S : Type 0} (before : S → S → Bool) (order : Order before) (vs : List (Vertex S)) (sound : Sound before vs) (n : ℕ) where
-  length-vertex : (v : Vertex S) → look vs n ≡ Some v →
-      length (ordered (codes vs n)) ≡ length (ordered (codes vs (v .zero))) + length (ordered (codes vs (v .one)))
-  length-vertex v p = ap (λ t. length (ordered t)) (pictured before order vs sound .unfolds n v p) ∙ length-begun (v .label) (codes vs (v .zero)) (codes vs (v .one))
-
-  blank-vertex : (v : Vertex S) → look vs n ≡ Some v → blank-in (codes vs n) ≡ blank-in (codes vs (v .zero))
-  blank-vertex v p = ap blank-in (pictured before order vs sound .unfolds n v p)
+  -- the list of a vertex that was read
+  pub read-codes : (t : S × ℕ × ℕ) → Some t ≡ mapped parts (look vs n) → codes vs n ≡ begun (t .0) (codes vs (t .1)) (codes vs (t .2))
+  read-codes t e =
+      let l = looked vs n t e in
+      pictured before order vs sound .unfolds n (l .0) (l .1) ∙ ap (λ (x : S × ℕ × ℕ). begun (x .0) (codes vs (x .1)) (codes vs (x .2))) (sym (l .2))
 
   -- a good number without a vertex is a terminal
   pub terminal : Good vs n → look vs n ≡ None → (P : ℕ → Type 0) → P 0 → P 1 → P n
@@ -65,14 +62,14 @@ module _ {S : Type 0} (before : S → S → Bool) (order : Order before) (vs : L
       (record { many = refl; blank = refl })
       (record { many = refl; blank = refl })
 
-  pub tells-vertex : (v : Vertex S) → look vs n ≡ Some v → (outer inner : Tally) → Tells (codes vs (v .zero)) outer → Tells (codes vs (v .one)) inner →
-      (sum : Option ℕ) → ((m k : ℕ) → Counted m (outer .codes) → Counted k (inner .codes) → Counted (m + k) sum) →
-      Tells (codes vs n) (record { codes = sum; empty = outer .empty })
-  tells-vertex v p outer inner z o sum adds =
-      record {
-        many = subst (λ m. Counted m sum) (sym (length-vertex v p)) (adds (length (ordered (codes vs (v .zero)))) (length (ordered (codes vs (v .one)))) (z .many) (o .many));
-        blank = z .blank ∙ sym (blank-vertex v p);
-      }
+pub tells-begun : {S : Type 0} (t : Codes S) (a : S) (z o : Codes S) → t ≡ begun a z o → (outer inner : Tally) → Tells z outer → Tells o inner →
+    (sum : Option ℕ) → ((m k : ℕ) → Counted m (outer .codes) → Counted k (inner .codes) → Counted (m + k) sum) →
+    Tells t (record { codes = sum; empty = outer .empty })
+tells-begun t a z o e outer inner p q sum adds =
+    record {
+      many = subst⁻¹ (λ m. Counted m sum) (ap (λ u. length (ordered u)) e ∙ length-begun a z o) (adds (length (ordered z)) (length (ordered o)) (p .many) (q .many));
+      blank = p .blank ∙ ap blank-in (sym e);
+    }
 
 -- one place more is filled in
 pub tallied-more : {S : Type 0} (vs : List (Vertex S)) (n : ℕ) (work : List Place) (p : Place) (t : Tally) → n < length work →

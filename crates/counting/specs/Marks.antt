@@ -3,7 +3,8 @@ use mathlib.Core.Path.{_≡_}
 use mathlib.Core.Bool.{Bool, true, false}
 use mathlib.Core.List.{List}
 use mathlib.Core.Logic.{_⊎_}
-use Prim.Native.Nat.{ℕ, _<_}
+use Prim.Native.Nat.{ℕ, _<_, _≤_}
+use lib.Dec.{eqb}
 use lib.ListN.{getD, set}
 use Rattle.std.specs.declared.option.Option.the-variants.{Some, None}
 use Rattle.ledger.specs.declared.Vertex.{Vertex}
@@ -18,6 +19,10 @@ marked-place = record { state = 1; list = 0; other = 0; number = 0; count = 0 }
 -- no number below n is marked
 abbrev pub Unmarked : ℕ → List Place → Type 0
 Unmarked n work = (k : ℕ) → k < n → is-mark (getD work k vacant) ≡ false
+
+-- of the numbers up to this one, it alone is marked
+abbrev pub OnlyMarked : ℕ → List Place → Type 0
+OnlyMarked list work = (k : ℕ) → k ≤ list → is-mark (getD work k vacant) ≡ eqb k list
 
 -- a marked vertex, and its links are marked then; or no vertex, or one that is not marked, and nothing changes
 abbrev pub Visited : {S : Type 0} → List (Vertex S) → ℕ → List Place → Bool → List Place → Type 0

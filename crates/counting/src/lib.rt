@@ -2,4 +2,5 @@
 // code of it has a given number of codes before it. Each goes over the numbers up to the list's once or twice, whatever
 // lies on the shelf, and over no other part of the work space.
 pub mod marking;
+pub mod picking;
 pub mod tallying;

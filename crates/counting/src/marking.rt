@@ -1,12 +1,12 @@
 // How many vertices are reached from a number. Links lead to lower numbers, so one pass from the number down marks all
 // that are reached, and counts them as it comes to them; a pass before it takes the marks off.
-ghost use Prim.Native.Nat.{ℕ, _+_, _<_, _≤_};
+ghost use Prim.Native.Nat.{_+_, _<_};
 ghost use lib.ListN.{length, getD, set};
 ghost use mathlib.Core.Bool.{true, false};
 ghost use mathlib.Core.Path.{_≡_};
 ghost use Rattle.ledger.specs.Diagrams.{Counts, Formed, Reached};
 ghost use Rattle.memory.specs.Shelves.{is-mark};
-ghost use Rattle.counting.specs.Marks.{Unmarked, Visited, marked-place};
+ghost use Rattle.counting.specs.Marks.{OnlyMarked, Unmarked, Visited, marked-place};
 ghost use Rattle.counting.specs.Tallies.{vacant};
 use memory::reading::read_vertex;
 use memory::shelf::Shelf;
@@ -57,13 +57,20 @@ fn visit<S: Symbol, B: Shelf<S>>(shelf: &B, n: u32, work: &mut [Place]) -> bool
     true
 }
 
-// How many vertices are reached from the number.
-pub fn vertices<S: Symbol, B: Shelf<S>>(shelf: &B, list: u32, work: &mut [Place]) -> u32
+// Marks this number alone, of those up to it.
+fn mark_only(list: u32, work: &mut [Place])
     requires { ⌜ list < length (now work) ⌝ }
-    ensures { λ r. ⌜ (Formed (S·Symbol .before) (B·Shelf .vertices (now (shelf .entry))) → Counts (Reached (B·Shelf .vertices (now (shelf .entry))) list) r) ⌝ }
+    ensures { λ _. ⌜ OnlyMarked list (now (work .exit)) ⌝ }
 {
     unmark_up_to(list, work);
     mark(work, list);
+}
+
+// How many vertices are reached from the only number that is marked.
+fn count_down<S: Symbol, B: Shelf<S>>(shelf: &B, list: u32, work: &mut [Place]) -> u32
+    requires { ⌜ list < length (now work) ⌝ }
+    ensures { λ r. ⌜ (Formed (S·Symbol .before) (B·Shelf .vertices (now (shelf .entry))) → OnlyMarked list (now (work .entry)) → Counts (Reached (B·Shelf .vertices (now (shelf .entry))) list) r) ⌝ }
+{
     let mut reached = 0;
     for n in (2..=list).rev() {
         if visit(shelf, n, work) {
@@ -71,4 +78,13 @@ pub fn vertices<S: Symbol, B: Shelf<S>>(shelf: &B, list: u32, work: &mut [Place]
         }
     }
     reached
+}
+
+// How many vertices are reached from the number.
+pub fn vertices<S: Symbol, B: Shelf<S>>(shelf: &B, list: u32, work: &mut [Place]) -> u32
+    requires { ⌜ list < length (now work) ⌝ }
+    ensures { λ r. ⌜ (Formed (S·Symbol .before) (B·Shelf .vertices (now (shelf .entry))) → Counts (Reached (B·Shelf .vertices (now (shelf .entry))) list) r) ⌝ }
+{
+    mark_only(list, work);
+    count_down(shelf, list, work)
 }

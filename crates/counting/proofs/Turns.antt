@@ -1,0 +1,138 @@
+-- One turn of a pick: the tallies tell where the code with k before it goes on.
+use mathlib.Core.Path.{_≡_, refl, sym, ap, subst, subst⁻¹, _∙_}
+use mathlib.Core.Bool.{Bool, true, false}
+use mathlib.Core.List.{List, [], _∷_, _++_, append-assoc, append-nil}
+use mathlib.Core.Logic.{_⊎_, inl, inr}
+use Prim.Native.Nat.{ℕ, _+_, _-_, _≤_, _<_}
+use native.Mathlib.Omega.{arith}
+use mir.Val.{boolByte}
+use lib.ListN.{length, getD, take, drop, set, length-append, take-append-drop}
+use Rattle.std.proofs.shelf.Lists.{take-more-set, drop-drop, length-take-le}
+use Rattle.std.specs.Finite.{nth}
+use Rattle.std.specs.Options.{mapped}
+use Rattle.std.specs.declared.option.Option.{Option}
+use Rattle.std.specs.declared.option.Option.the-variants.{Some, None}
+use Rattle.symbols.specs.Order.{Order}
+use Rattle.ledger.specs.declared.Vertex.{Vertex}
+use Rattle.ledger.specs.Lists.{Codes, begun}
+use Rattle.ledger.specs.Diagrams.{look, parts, Sound}
+use Rattle.ledger.specs.Ledger.{codes}
+use Rattle.ledger.specs.Ordered.{ordered, blank-in}
+use Rattle.ledger.proofs.Orders.{ordered-member}
+use Rattle.memory.specs.declared.work.Place.{Place}
+use Rattle.memory.proofs.Looks.{looked}
+use Rattle.counting.specs.declared.picking.Course.{Course}
+use Rattle.counting.specs.declared.picking.Turn.the-variants.{Ends, Passes, Takes}
+use Rattle.counting.specs.declared.tallying.Tally.{Tally}
+use Rattle.counting.specs.Tallies.{Counted, Tallied, held, vacant}
+use Rattle.counting.specs.Picks.{Stands, Leads, Short, Writes, rest, whole}
+use Rattle.counting.proofs.Sizes.{read-codes, terminal}
+use Rattle.counting.proofs.Nths.{nth-in, nth-some, nth-blank, turn-inner, turn-outer, outer-stands}
+
+module _ {S : Type 0} (before : S → S → Bool) (order : Order before) (vs : List (Vertex S)) (sound : Sound before vs) (n k : ℕ) (stands : Stands vs n k) where
+  pub turn-terminal : look vs n ≡ None → Leads vs n k Ends
+  turn-terminal e =
+      terminal before order vs sound n (stands .0) e (λ m. k < length (ordered (codes vs m)) → rest vs m k ≡ Some [])
+      (λ h. absurd (omega arith))
+      (λ h. let z : k ≡ 0 = omega arith in ap (nth ([] ∷ [])) z)
+      (stands .1)
+
+  module _ (work : List Place) (tallied : Tallied vs (n + 1) work) (here : Tally) (here-is : here ≡ held (getD work n vacant)) (empty : ℕ) (empty-is : empty ≡ boolByte (here .empty)) where
+    empties : empty ≡ boolByte (blank-in (codes vs n))
+    empties = empty-is ∙ ap boolByte (ap (λ (r : Tally). r .empty) here-is ∙ tallied n (omega arith) .blank)
+
+    pub turn-empty : k < empty → Leads vs n k Ends
+    turn-empty h = nth-blank (codes vs n) k (subst (λ m. k < m) empties h)
+
+    module _ (t : S × ℕ × ℕ) (read : Some t ≡ mapped parts (look vs n)) (later : ℕ) (at-k : k ≡ empty + later) where
+      begins : codes vs n ≡ begun (t .0) (codes vs (t .1)) (codes vs (t .2))
+      begins = read-codes before order vs sound n t read
+
+      past : k ≡ boolByte (blank-in (codes vs n)) + later
+      past = at-k ∙ ap (λ m. m + later) empties
+
+      links-low : (t .1 < n) × (t .2 < n)
+      links-low =
+          let l = looked vs n t read in
+          let z : t .1 ≡ l .0 .zero = ap (λ (x : S × ℕ × ℕ). x .1) (l .2) in
+          let o : t .2 ≡ l .0 .one = ap (λ (x : S × ℕ × ℕ). x .2) (l .2) in
+          let zero-low = sound .formed .zero-below n (l .0) (l .1) in
+          let one-low = sound .formed .one-below n (l .0) (l .1) in
+          (omega arith, omega arith)
+
+      -- the one link's codes, as they were counted
+      pub inner-counted : (inner : Tally) → inner ≡ held (getD work (t .2) vacant) → Counted (length (ordered (codes vs (t .2)))) (inner .codes)
+      inner-counted inner is =
+          let low = links-low .1 in
+          subst⁻¹ (λ (r : Tally). Counted (length (ordered (codes vs (t .2)))) (r .codes)) is (tallied (t .2) (omega arith) .many)
+
+      pub turn-takes : later < length (ordered (codes vs (t .2))) → Leads vs n k (Takes (t .0) (t .2) later)
+      turn-takes h =
+          let low = links-low .1 in
+          let good = stands .0 in
+          ((omega arith, h), turn-inner (codes vs n) (t .0) (codes vs (t .1)) (codes vs (t .2)) begins k later past h)
+
+      pub turn-passes : (left : ℕ) → later ≡ length (ordered (codes vs (t .2))) + left → Leads vs n k (Passes (t .1) (empty + left))
+      turn-passes left from =
+          let low = links-low .0 in
+          let good = stands .0 in
+          let same : boolByte (blank-in (codes vs n)) + left ≡ empty + left = ap (λ m. m + left) (sym empties) in
+          (
+            (omega arith, subst (λ m. m < length (ordered (codes vs (t .1)))) same (outer-stands (codes vs n) (t .0) (codes vs (t .1)) (codes vs (t .2)) begins k later past left from (stands .1))),
+            turn-outer (codes vs n) (t .0) (codes vs (t .1)) (codes vs (t .2)) begins k later past left from ∙ ap (nth (ordered (codes vs (t .1)))) same,
+          )
+
+drop-on : {A : Type 0} (m n : ℕ) (xs ys : List A) → m ≤ n → drop m xs ≡ drop m ys → drop n xs ≡ drop n ys
+drop-on m n xs ys h e =
+    let s : m + (n - m) ≡ n = omega arith in
+    subst (λ j. drop j xs ≡ drop j ys) s (sym (drop-drop (n - m) m xs) ∙ ap (drop (n - m)) e ∙ drop-drop (n - m) m ys)
+
+-- what is not written yet is as it was
+pub drop-then : {A : Type 0} (m n : ℕ) (first then last : List A) → m ≤ n → drop m then ≡ drop m first → drop n last ≡ drop n then → drop n last ≡ drop n first
+drop-then m n first then last h p q = q ∙ drop-on m n then first h p
+
+-- a label that is taken and written leaves the whole code as it is
+pub whole-takes : {S : Type 0} (vs : List (Vertex S)) (course : Course) (out after : List S) (a : S) (list k : ℕ) → course .length < length out → after ≡ set out (course .length) a →
+    rest vs (course .list) (course .before) ≡ mapped (λ c. a ∷ c) (rest vs list k) →
+    whole vs (record { list = list; before = k; length = course .length + 1 }) after ≡ whole vs course out
+whole-takes {S} vs course out after a list k inside put e =
+    ap (λ w. mapped (λ c. take (course .length + 1) w ++ c) (rest vs list k)) put ∙
+    by (rest vs list k) ∙
+    ap (mapped (λ c. take (course .length) out ++ c)) (sym e)
+  where
+    by : (o : Option (List S)) → mapped (λ c. take (course .length + 1) (set out (course .length) a) ++ c) o ≡ mapped (λ c. take (course .length) out ++ c) (mapped (λ c. a ∷ c) o)
+    by None = refl
+    by (Some c) = ap Some (ap (λ w. w ++ c) (take-more-set out (course .length) a inside) ∙ append-assoc (take (course .length) out) (a ∷ []) c)
+
+-- a label that would be the 65th
+pub over-long : {S : Type 0} (vs : List (Vertex S)) (course : Course) (a : S) (list k : ℕ) → 64 ≤ course .length → Stands vs list k →
+    rest vs (course .list) (course .before) ≡ mapped (λ c. a ∷ c) (rest vs list k) →
+    (c : List S) × (rest vs (course .list) (course .before) ≡ Some c) × ((c ≡ []) ⊎ (64 < course .length + length c))
+over-long vs course a list k full stands e =
+    let r = nth-some (ordered (codes vs list)) k (stands .1) in
+    (a ∷ r .0, e ∙ ap (mapped (λ c. a ∷ c)) (r .1), inr (omega arith))
+
+-- where the walk ends, the code is written
+pub whole-writes : {S : Type 0} (before : S → S → Bool) (order : Order before) (vs : List (Vertex S)) (course : Course) (t : Codes S) (k : ℕ) (entry out : List S) →
+    64 ≤ length out → course .length ≤ 64 → drop (course .length) out ≡ drop (course .length) entry → Short t →
+    whole vs course out ≡ nth (ordered t) k →
+    (c : List S) → rest vs (course .list) (course .before) ≡ Some c → (c ≡ []) ⊎ (64 < course .length + length c) →
+    Writes (ordered t) k entry (course .length) out
+whole-writes {S} before order vs course t k entry out wide small kept short is c ends why = by why
+  where
+    at-k : nth (ordered t) k ≡ Some (take (course .length) out ++ c)
+    at-k = sym is ∙ ap (mapped (λ d. take (course .length) out ++ d)) ends
+
+    by : (c ≡ []) ⊎ (64 < course .length + length c) → Writes (ordered t) k entry (course .length) out
+    by (inl e) =
+        record {
+          code = take (course .length) out;
+          at-k = at-k ∙ ap (λ d. Some (take (course .length) out ++ d)) e ∙ ap Some (append-nil (take (course .length) out));
+          long = sym (length-take-le (course .length) out (omega arith));
+          written = sym (take-append-drop (course .length) out) ∙ ap (λ d. take (course .length) out ++ d) kept;
+        }
+    by (inr long) =
+        let few = short (take (course .length) out ++ c) (ordered-member before order t (take (course .length) out ++ c) (nth-in (ordered t) k (take (course .length) out ++ c) at-k)) in
+        let l = length-append (take (course .length) out) c in
+        let m = length-take-le (course .length) out (omega arith) in
+        absurd (omega arith)

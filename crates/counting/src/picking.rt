@@ -1,0 +1,129 @@
+// Which code of a list has a given number of codes before it. The lists up to this one are tallied first. Then one walk
+// goes down the links: each turn ends the code, takes the label or passes it by, as the tallies tell.
+ghost use Prim.Native.Nat.{ℕ, _+_, _<_, _≤_};
+ghost use lib.ListN.{length, drop, set};
+ghost use mathlib.Core.Path.{_≡_};
+ghost use Rattle.ledger.specs.Diagrams.{Good, Sound};
+ghost use Rattle.ledger.specs.Ledger.{codes};
+ghost use Rattle.ledger.specs.Ordered.{ordered};
+ghost use Rattle.counting.specs.Tallies.{Counted, Tallied};
+ghost use Rattle.counting.specs.Picks.{Advances, AtMost, Falls, Keeps, Leads, LeftOf, Lower, Picked, PickKeeps, Short, Stands, Writes};
+use crate::tallying::tally_at;
+use crate::tallying::tally_up_to;
+use memory::reading::read_vertex;
+use memory::shelf::Shelf;
+use memory::work::Place;
+use symbols::Symbol;
+
+// No code is longer.
+const LONGEST: usize = 64;
+
+// Why no code is picked: the list has 2^64 codes or more, or no code of it has so many before it.
+#[derive(Clone, Copy, Debug, PartialEq, Eq)]
+pub enum PickFault {
+    TooMany,
+    NoSuchCode,
+}
+
+// Where a pick has come: so many symbols are written, and the rest is the code of the list with so many codes before it.
+#[derive(Clone, Copy)]
+struct Course {
+    list: u32,
+    before: u64,
+    length: usize,
+}
+
+// One turn: the rest is empty; or is a code of the zero link; or is the label, and then a code of the one link.
+#[derive(Drop, Clone, Copy)]
+enum Turn<S> {
+    Ends,
+    Passes(u32, u64),
+    Takes(S, u32, u64),
+}
+
+// How many codes are left of those before, without these; nothing where these are more.
+fn left_of(before: u64, these: Option<u64>) -> Option<u64>
+    ensures small { λ r. ⌜ AtMost before r ⌝ }
+    ensures value { λ r. ⌜ ((n : ℕ) → Counted n these → LeftOf before n r) ⌝ }
+{
+    before.checked_sub(these?)
+}
+
+// The turn at a list.
+fn turn_at<S: Symbol, B: Shelf<S>>(shelf: &B, list: u32, before: u64, work: &[Place]) -> Turn<S>
+    requires { ⌜ list < length (now work) ⌝ }
+    ensures below { λ r. ⌜ Lower list r ⌝ }
+    ensures value { λ r. ⌜ (Sound (S·Symbol .before) (B·Shelf .vertices (now (shelf .entry))) → Tallied (B·Shelf .vertices (now (shelf .entry))) (list + 1) (now (work .entry)) → Stands (B·Shelf .vertices (now (shelf .entry))) list before → Leads (B·Shelf .vertices (now (shelf .entry))) list before r) ⌝ }
+{
+    let Some((label, zero, one)) = read_vertex(shelf, list) else {
+        return Turn::Ends;
+    };
+    let empty = u64::from(tally_at(work, list).empty);
+    let Some(later) = before.checked_sub(empty) else {
+        return Turn::Ends;
+    };
+    let Some(left) = left_of(later, tally_at(work, one).codes) else {
+        return Turn::Takes(label, one, later);
+    };
+    Turn::Passes(zero, empty + left)
+}
+
+fn put<S: Symbol>(out: &mut [S], at: usize, symbol: S)
+    requires { ⌜ at < length (now out) ⌝ }
+    ensures { λ _. ⌜ now (out .exit) ≡ set (now (out .entry)) at symbol ⌝ }
+{
+    out[at] = symbol;
+}
+
+// Makes a turn, and writes the label that it takes; nothing where the code ends.
+fn advance<S: Symbol, B: Shelf<S>>(shelf: &B, course: Course, out: &mut [S], work: &[Place]) -> Option<Course>
+    requires room { ⌜ course .list < length (now work) ⌝ }
+    requires length { ⌜ course .length ≤ 64 ⌝ }
+    requires output { ⌜ 64 ≤ length (now out) ⌝ }
+    ensures below { λ r. ⌜ Falls course r ⌝ }
+    ensures kept { λ r. ⌜ Keeps r (now (out .entry)) (now (out .exit)) ⌝ }
+    ensures value { λ r. ⌜ (Sound (S·Symbol .before) (B·Shelf .vertices (now (shelf .entry))) → Tallied (B·Shelf .vertices (now (shelf .entry))) (course .list + 1) (now (work .entry)) → Stands (B·Shelf .vertices (now (shelf .entry))) (course .list) (course .before) → Advances (B·Shelf .vertices (now (shelf .entry))) course (now (out .entry)) r (now (out .exit))) ⌝ }
+{
+    match turn_at(shelf, course.list, course.before, work) {
+        Turn::Ends => None,
+        Turn::Passes(list, before) => Some(Course { list, before, length: course.length }),
+        Turn::Takes(label, list, before) => {
+            if course.length >= LONGEST {
+                return None;
+            }
+            put(out, course.length, label);
+            Some(Course { list, before, length: course.length + 1 })
+        }
+    }
+}
+
+// Writes the code of the list with k before it, and answers its length.
+fn write_code<S: Symbol, B: Shelf<S>>(shelf: &B, list: u32, k: u64, out: &mut [S], work: &[Place]) -> usize
+    requires room { ⌜ list < length (now work) ⌝ }
+    requires output { ⌜ 64 ≤ length (now out) ⌝ }
+    ensures kept { λ r. ⌜ (r ≤ 64) × (drop r (now (out .exit)) ≡ drop r (now (out .entry))) ⌝ }
+    ensures value { λ r. ⌜ (Sound (S·Symbol .before) (B·Shelf .vertices (now (shelf .entry))) → Tallied (B·Shelf .vertices (now (shelf .entry))) (list + 1) (now (work .entry)) → Stands (B·Shelf .vertices (now (shelf .entry))) list k → Short (codes (B·Shelf .vertices (now (shelf .entry))) list) → Writes (ordered (codes (B·Shelf .vertices (now (shelf .entry))) list)) k (now (out .entry)) r (now (out .exit))) ⌝ }
+{
+    let mut course = Course { list, before: k, length: 0 };
+    while let Some(next) = advance(shelf, course, out, work) {
+        course = next;
+    }
+    course.length
+}
+
+// Writes the code of the list with k codes before it to the start of `out`, and answers its length.
+pub fn pick<S: Symbol, B: Shelf<S>>(shelf: &B, list: u32, k: u64, out: &mut [S], work: &mut [Place]) -> Result<usize, PickFault>
+    requires room { ⌜ list < length (now work) ⌝ }
+    requires output { ⌜ 64 ≤ length (now out) ⌝ }
+    ensures answer { λ r. ⌜ (Sound (S·Symbol .before) (B·Shelf .vertices (now (shelf .entry))) → Good (B·Shelf .vertices (now (shelf .entry))) list → Picked (codes (B·Shelf .vertices (now (shelf .entry))) list) k (now (out .entry)) r (now (out .exit))) ⌝ }
+    ensures kept { λ r. ⌜ PickKeeps (now (out .entry)) r (now (out .exit)) ⌝ }
+{
+    tally_up_to(shelf, list, work);
+    let Some(count) = tally_at(work, list).codes else {
+        return Err(PickFault::TooMany);
+    };
+    if k >= count {
+        return Err(PickFault::NoSuchCode);
+    }
+    Ok(write_code(shelf, list, k, out, work))
+}
