@@ -4,3 +4,4 @@ pub mod Growing
 pub mod Coupling
 pub mod Stacks
 pub mod Turning
+pub mod Refused
