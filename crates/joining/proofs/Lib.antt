@@ -5,3 +5,4 @@ pub mod Coupling
 pub mod Stacks
 pub mod Turning
 pub mod Refused
+pub mod Landing

@@ -131,3 +131,12 @@ Unended height (Answer n) = 0 < height
 abbrev pub Ended : State → Option ℕ → Type 0
 Ended state None = Unended (state .height) (state .turn)
 Ended state (Some n) = (state .height ≡ 0) × (state .turn ≡ Answer n)
+
+-- a whole walk: the pair's list is laid down, and the recall table is right; or the list is too long
+abbrev pub Walked : {S : Type 0} → (S → S → Bool) → ℕ → List (Vertex S) → Codes S → Result ℕ Full → List (Vertex S) → (Question → Option ℕ) → Type 0
+Walked before capacity vs goal (Ok n) ws table = Laid before vs goal ws n × Right before ws table
+Walked {S} before capacity vs goal (Err e) ws table = (capacity < length (lay before (lists vs) goal)) × ((more : List (Vertex S)) × (ws ≡ vs ++ more))
+
+abbrev pub Walks : {S : Type 0} → (S → S → Bool) → ℕ → ℕ → Pair → List (Vertex S) → (Question → Option ℕ) → Result ℕ Full → List (Vertex S) → (Question → Option ℕ) → Type 0
+Walks before capacity rule pair vs table r ws after =
+    Sound before vs → Good vs (pair .first) → Good vs (pair .second) → Right before vs table → Walked before capacity vs (joint before vs rule pair) r ws after
