@@ -1,20 +1,24 @@
 -- What is written says which list it was written of.
-use mathlib.Core.Path.{_≡_, refl, sym, ap, ap₂, subst, _∙_}
-use mathlib.Core.Bool.{Bool, true, false}
+use mathlib.Core.Path.{_≡_, refl, sym, ap, ap₂, _∙_}
+use mathlib.Core.Bool.{Bool}
 use mathlib.Core.List.{List, [], _∷_, _++_}
-use mathlib.Core.Logic.{_↔_, _⊎_, inl, inr, Iff·rfl, Iff·trans}
-use Prim.Native.Nat.{ℕ, zero, suc, _+_, _*_, _/_, _%_, _^_, _≤_, _<_}
+use mathlib.Core.Logic.{_↔_, Iff·rfl}
+use Prim.Native.Nat.{ℕ, zero, _+_, _*_, _^_, _≤_, _<_}
 use native.Mathlib.Omega.{arith}
 use lib.ListN.{length}
+use Rattle.std.specs.declared.result.Result.{Result}
+use Rattle.std.specs.declared.result.Result.the-variants.{Ok}
 use Rattle.symbols.specs.Order.{Order}
-use Rattle.ledger.specs.Lists.{Codes, none, blank, begun, Proper}
+use Rattle.symbols.specs.Wire.{WireLaws}
+use Rattle.symbols.specs.declared.SymbolFault.{SymbolFault}
+use Rattle.ledger.specs.Lists.{Codes, none, blank, begun}
 use Rattle.ledger.specs.declared.Vertex.{Vertex}
-use Rattle.ledger.specs.Diagrams.{Good, Sound, SameCodes, Reached, Counts}
-use Rattle.ledger.specs.Ledger.{number, lay, lists, codes, vertices-in, vertices-of, Drawing, fresh}
+use Rattle.ledger.specs.Diagrams.{Good, Sound, SameCodes}
+use Rattle.ledger.specs.Ledger.{number, lay, codes, vertices-in, vertices-of, Drawing, fresh}
 use Rattle.ledger.specs.Dispatch.{be4, Travels, records, dispatch}
-use Rattle.ledger.proofs.Reading.{head-same, tail-same, nil-cons}
+use Rattle.ledger.proofs.Reading.{head-same, tail-same}
 use Rattle.ledger.proofs.Least.{at-least}
-use Rattle.ledger.proofs.Rows.{Known, Ledger, empty-row, lay-ledger, lay-knows, number-good}
+use Rattle.ledger.proofs.Rows.{empty-row, lay-ledger, lay-knows, number-good}
 use Rattle.ledger.proofs.Drawn.{Closed, ledger-closed, codes-proper, written-alike}
 use Rattle.ledger.proofs.Parts.{reached-many}
 
@@ -31,6 +35,14 @@ append-same (a ∷ ps) [] xs ys l e = absurd (omega arith)
 append-same (a ∷ ps) (b ∷ bs) xs ys l e =
     let r = append-same ps bs xs ys (omega arith) (tail-same refl e) in
     (ap₂ (λ x y. x ∷ y) (head-same refl e) (r .0), r .1)
+
+-- symbols that keep the law of bytes travel
+pub travels : {S : Type 0} (kind width : ℕ) (bytes : S → List ℕ) (reads : List ℕ → Result S SymbolFault) → WireLaws kind width bytes reads → Travels width bytes
+travels {S} kind width bytes reads laws =
+    record {
+      wide = laws .long;
+      apart = λ s t e. let same : _≡_ {A = Result S SymbolFault} (Ok s) (Ok t) = sym (laws .back s) ∙ ap reads e ∙ laws .back t in cc;
+    }
 
 -- numbers that fit four bytes
 abbrev Fit : {S : Type 0} → List (Vertex S) → Type 0

@@ -1,25 +1,24 @@
 -- The vertices of a ledger are sound, and keeping marked vertices keeps the marked lists.
 use mathlib.Core.Path.{_≡_, refl, sym, ap, ap₂, subst, subst⁻¹, _∙_}
-use mathlib.Core.Bool.{Bool, true, false, cond}
+use mathlib.Core.Bool.{Bool, true, false}
 use mathlib.Core.List.{List, [], _∷_, _++_, map, append-nil}
-use mathlib.Core.Logic.{_↔_, _⊎_, inl, inr, _≢_}
+use mathlib.Core.Logic.{_⊎_, inl, inr, _≢_}
 use Prim.Native.Nat.{ℕ, zero, suc, _+_, _≤_, _<_}
 use native.Mathlib.Omega.{arith}
 use lib.ListN.{length, getD}
 use Rattle.std.specs.Finite.{nth}
-use Rattle.std.specs.declared.option.Option.{Option}
-use Rattle.std.specs.declared.option.Option.the-variants.{Some, None}
+use Rattle.std.specs.declared.option.Option.the-variants.{Some}
 use Rattle.symbols.specs.Order.{Order}
-use Rattle.ledger.specs.Lists.{Codes, none, blank, begun, Member, Comes, Some-code, Proper, same}
+use Rattle.ledger.specs.Lists.{Codes, none, begun, Member, Comes, Some-code, same}
 use Rattle.ledger.specs.declared.Vertex.{Vertex}
-use Rattle.ledger.specs.Diagrams.{look, Has, Good, Sound, SameCodes}
-use Rattle.ledger.specs.Ledger.{listed, position, number, lay, list-in, lists, codes, vertices-in, vertices-of}
+use Rattle.ledger.specs.Diagrams.{look, Good, Sound, SameCodes}
+use Rattle.ledger.specs.Ledger.{listed, position, number, list-in, lists, codes, vertices-of}
 use Rattle.ledger.specs.Gather.{keep, marked-before, renumber, renumbered, gather, Marked, Whole}
-use Rattle.ledger.proofs.Reading.{true-false, none-some, some-same}
+use Rattle.ledger.proofs.Reading.{true-false, none-some}
 use Rattle.ledger.proofs.Canon.{Kind, is-0, is-1, is-vertex, kind, vertex-good}
 use Rattle.ledger.proofs.Ends.{by-ends, nth-last, length-snoc, getD-last, getD-front}
-use Rattle.ledger.proofs.Rows.{both-ways, Known, Ledger, empty-row, one-more, listed-front, listed-last, listed-cases, known-held, known-list, known-front, number-good, number-list, list-number, listed-getD, position-below, getD-position}
-use Rattle.ledger.proofs.Drawn.{Closed, Pictured, pictured, vertices-of-more, lists-vertices-of, lists-more, not-there, comes, some-code, sound-front, look-front, codes-proper, has-member, member-has}
+use Rattle.ledger.proofs.Rows.{both-ways, Known, Ledger, empty-row, one-more, known-list, number-good, number-list, list-number, listed-getD}
+use Rattle.ledger.proofs.Drawn.{Pictured, pictured, vertices-of-more, lists-vertices-of, lists-more, not-there, comes, some-code, sound-front, look-front, codes-proper, has-member, member-has}
 use Rattle.ledger.proofs.Laying.{sound-more}
 
 module _ {S : Type 0} (before : S → S → Bool) (order : Order before) where

@@ -1,24 +1,23 @@
 -- Laying down, step by step, as a store does it: outer list, inner list, then the vertex itself is found or appended.
 use mathlib.Core.Path.{_≡_, refl, sym, ap, ap₂, subst, subst⁻¹, _∙_}
-use mathlib.Core.Bool.{Bool, true, false, cond}
+use mathlib.Core.Bool.{Bool, true, false}
 use mathlib.Core.List.{List, [], _∷_, _++_}
-use mathlib.Core.Logic.{_↔_, _⊎_, inl, inr, _≢_}
+use mathlib.Core.Logic.{_⊎_, inl, inr, _≢_}
 use Prim.Native.Nat.{ℕ, zero, suc, _+_, _≤_, _<_}
 use native.Mathlib.Omega.{arith}
 use lib.ListN.{length, getD, length-append}
-use Rattle.std.specs.declared.option.Option.{Option}
-use Rattle.std.specs.declared.option.Option.the-variants.{Some, None}
+use Rattle.std.specs.declared.option.Option.the-variants.{Some}
 use Rattle.symbols.specs.Order.{Order}
 use Rattle.ledger.specs.Lists.{Codes, none, blank, begun, Comes, Some-code, Proper}
 use Rattle.ledger.specs.declared.Vertex.{Vertex}
 use Rattle.ledger.specs.Diagrams.{look, Good, Sound}
-use Rattle.ledger.specs.Ledger.{listed, position, number, lay, list-in, lists, codes, vertices-of}
+use Rattle.ledger.specs.Ledger.{listed, position, number, lay, list-in, lists, codes}
 use Rattle.ledger.specs.Laid.{Laid}
-use Rattle.ledger.proofs.Reading.{true-false, none-some, some-same}
+use Rattle.ledger.proofs.Reading.{true-false}
 use Rattle.ledger.proofs.Canon.{Kind, is-0, is-1, is-vertex, kind, vertex-good}
-use Rattle.ledger.proofs.Ends.{nth-last, length-snoc, getD-last}
-use Rattle.ledger.proofs.Rows.{both-ways, Known, Ledger, listed-cases, known-list, known-laid, number-list, list-front, lay-held, lay-new, lay-known, lay-knows, lay-only, lay-adds, size, listed-getD, position-below, getD-position}
-use Rattle.ledger.proofs.Drawn.{Pictured, pictured, look-front, look-cases, draw-append, codes-proper}
+use Rattle.ledger.proofs.Ends.{length-snoc, getD-last}
+use Rattle.ledger.proofs.Rows.{both-ways, Known, Ledger, known-list, number-list, list-front, lay-held, lay-new, lay-known, lay-only, lay-adds, size, position-below, getD-position}
+use Rattle.ledger.proofs.Drawn.{Pictured, pictured, look-cases, draw-append}
 use Rattle.ledger.proofs.Parts.{held-both}
 
 module _ {S : Type 0} (before : S → S → Bool) (order : Order before) where
