@@ -1,0 +1,37 @@
+-- A list that a walk has laid down, or that did not fit, as the ledger says it.
+use mathlib.Core.Path.{_≡_, refl, sym, _∙_, ap, subst⁻¹}
+use mathlib.Core.List.{List, _++_}
+use mathlib.Core.Bool.{Bool}
+use Prim.Native.Nat.{ℕ, _+_, _<_, _≤_}
+use native.Mathlib.Omega.{arith}
+use lib.ListN.{length, take}
+use Rattle.std.proofs.shelf.Lists.{take-at}
+use Rattle.std.specs.declared.option.Option.{Option}
+use Rattle.std.specs.declared.option.Option.the-variants.{Some, None}
+use Rattle.symbols.specs.Order.{Order}
+use Rattle.ledger.specs.declared.Vertex.{Vertex}
+use Rattle.ledger.specs.Lists.{Codes}
+use Rattle.ledger.specs.Ledger.{lay, lists, down, down-number}
+use Rattle.ledger.specs.Laid.{Laid}
+use Rattle.ledger.proofs.Downs.{laid-is}
+use Rattle.ledger.proofs.Drawn.{pictured}
+use Rattle.ledger.proofs.Reading.{none-some}
+use Rattle.memory.specs.declared.recall.Question.{Question}
+use Rattle.joining.specs.Recalled.{Right}
+
+module _ {S : Type 0} (before : S → S → Bool) (order : Order before) where
+  pub lands : (capacity : ℕ) (vs : List (Vertex S)) (t : Codes S) (ws : List (Vertex S)) (n : ℕ) → length ws ≤ capacity → Laid before vs t ws n →
+      (length (lay before (lists vs) t) ≤ capacity) × (ws ≡ down before vs t) × (n ≡ down-number before vs t)
+  lands capacity vs t ws n room laid =
+      let is = laid-is before order vs t ws n laid in
+      let l = pictured before order ws (laid .sound) .long in
+      let m = ap length (laid .row) in
+      (omega arith, is .0, is .1)
+
+  -- an empty table is right
+  pub empty-right : (vs : List (Vertex S)) (table : Question → Option ℕ) → ((q : Question) → table q ≡ None) → Right before vs table
+  empty-right vs table empty q n e = absurd (none-some (empty q) e)
+
+-- cut back to what there was
+pub cut-back : {S : Type 0} (vs more us ws : List (Vertex S)) (start : ℕ) → start ≡ length vs → us ≡ vs ++ more → ws ≡ take start us → ws ≡ vs
+cut-back vs more us ws start e x c = c ∙ ap (take start) x ∙ take-at _ _ _ (sym e)

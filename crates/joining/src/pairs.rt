@@ -1,0 +1,111 @@
+// A pair of list numbers that are to be joined, and how it is taken apart.
+ghost use Prim.Native.Nat.{ℕ, _<_, _≤_};
+ghost use mathlib.Core.Bool.{Bool, true, false, cond};
+ghost use mathlib.Core.List.{List};
+ghost use mathlib.Core.Path.{_≡_};
+ghost use Rattle.std.specs.declared.option.Option.{Option};
+ghost use Rattle.ledger.specs.Diagrams.{Formed};
+ghost use Rattle.joining.specs.Rules.{number-of};
+ghost use Rattle.joining.specs.Pairs.{Settles, Falls, parted, apart, asked, first-alone, second-alone};
+use crate::rule::Rule;
+use memory::reading::read_vertex;
+use memory::recall::Question;
+use memory::shelf::Shelf;
+use symbols::Symbol;
+
+#[derive(Clone, Copy)]
+pub struct Pair {
+    pub first: u32,
+    pub second: u32,
+}
+
+// A pair taken apart: the earlier head of the two lists, and the pairs of their outer and their inner lists.
+#[derive(Drop, Clone, Copy)]
+pub struct Split<S> {
+    pub label: S,
+    pub outer: Pair,
+    pub inner: Pair,
+}
+
+// What the recall table is asked of a pair.
+pub fn question(rule: Rule, pair: Pair) -> Question
+    ensures { λ r. ⌜ r ≡ asked (number-of rule) pair ⌝ }
+{
+    Question { rule: rule.number(), first: pair.first, second: pair.second }
+}
+
+fn kept(keep: bool, n: u32) -> u32
+    ensures { λ r. ⌜ r ≡ cond keep n 0 ⌝ }
+{
+    if keep { n } else { 0 }
+}
+
+// The answer that needs no walk: list 0 on either side, equal lists, and the rules for nothing, the first and the
+// second list.
+pub fn shortcut(rule: Rule, pair: Pair) -> Option<u32>
+    ensures { λ r. ⌜ Settles (number-of rule) pair r ⌝ }
+{
+    if pair.first == 0 {
+        return Some(kept(rule.second, pair.second));
+    }
+    if pair.second == 0 {
+        return Some(kept(rule.first, pair.first));
+    }
+    if pair.first == pair.second {
+        return Some(kept(rule.both, pair.first));
+    }
+    match (rule.first, rule.second, rule.both) {
+        (false, false, false) => Some(0),
+        (true, false, true) => Some(pair.first),
+        (false, true, true) => Some(pair.second),
+        _ => None,
+    }
+}
+
+// The head is the first list's alone.
+fn first_alone<S: Symbol>(pair: Pair, vertex: (S, u32, u32)) -> Split<S>
+    ensures { λ r. ⌜ r ≡ first-alone pair vertex ⌝ }
+{
+    let (label, zero, one) = vertex;
+    Split { label, outer: Pair { first: zero, second: pair.second }, inner: Pair { first: one, second: 0 } }
+}
+
+// The head is the second list's alone.
+fn second_alone<S: Symbol>(pair: Pair, vertex: (S, u32, u32)) -> Split<S>
+    ensures { λ r. ⌜ r ≡ second-alone pair vertex ⌝ }
+{
+    let (label, zero, one) = vertex;
+    Split { label, outer: Pair { first: pair.first, second: zero }, inner: Pair { first: 0, second: one } }
+}
+
+// Takes a pair apart by the vertices of its numbers; two terminals are not taken apart.
+fn part_by<S: Symbol>(pair: Pair, first: Option<(S, u32, u32)>, second: Option<(S, u32, u32)>) -> Option<Split<S>>
+    ensures { λ r. ⌜ r ≡ parted (S·Symbol .before) pair first second ⌝ }
+{
+    let Some(v) = first else {
+        let Some(w) = second else {
+            return None;
+        };
+        return Some(second_alone(pair, w));
+    };
+    let Some(w) = second else {
+        return Some(first_alone(pair, v));
+    };
+    if v.0.before(w.0) {
+        return Some(first_alone(pair, v));
+    }
+    if w.0.before(v.0) {
+        return Some(second_alone(pair, w));
+    }
+    Some(Split { label: v.0, outer: Pair { first: v.1, second: w.1 }, inner: Pair { first: v.2, second: w.2 } })
+}
+
+// Takes a pair apart. The two new pairs have lower numbers, whatever lies on the shelf.
+pub fn take_apart<S: Symbol, B: Shelf<S>>(shelf: &B, pair: Pair) -> Option<Split<S>>
+    ensures below { λ r. ⌜ Falls pair r ⌝ }
+    ensures value { λ r. ⌜ (Formed (S·Symbol .before) (B·Shelf .vertices (now (shelf .entry))) → r ≡ apart (S·Symbol .before) (B·Shelf .vertices (now (shelf .entry))) pair) ⌝ }
+{
+    let first = read_vertex(shelf, pair.first);
+    let second = read_vertex(shelf, pair.second);
+    part_by(pair, first, second)
+}
