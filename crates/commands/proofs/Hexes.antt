@@ -1,4 +1,4 @@
--- Hexadecimal text, digit by digit and pair by pair. Assumes nothing.
+-- Hexadecimal text, digit by digit and pair by pair.
 use mathlib.Core.Path.{_≡_, refl, sym, ap, subst, _∙_}
 use mathlib.Core.Bool.{Bool, true, false, cond, _&&_}
 use mathlib.Core.List.{List, [], _∷_, _++_}
@@ -50,9 +50,10 @@ hex-from (a ∷ b ∷ bs) h e =
     let low = digit-below b (q .0) in
     let rest = hex-from bs (q .1) (omega arith) in
     let over : (high .0 * 16 + low .0) / 16 ≡ high .0 = div-mul-add (high .0) 16 (low .0) (low .1) in
-    let under : (high .0 * 16 + low .0) % 16 ≡ low .0 = mod-mul-add (high .0) 16 (low .0) (low .1) in
-    ((high .0 * 16 + low .0) ∷ rest .0,
-      ((omega (arith, high .1, low .1), rest .1 .0), rw (over, under, high .2, low .2, rest .1 .1)))
+    let under : (high .0 * 16 + low .0) % 16 ≡ low .0 = mod-mul-add (high .0) 16 (low .0) (low .1) in (
+      (high .0 * 16 + low .0) ∷ rest .0,
+      ((omega (arith, high .1, low .1), rest .1 .0), rw (over, under, high .2, low .2, rest .1 .1)),
+    )
 
 pub text-sound : (bs : List ℕ) → is-text bs ≡ true → Hexadecimal bs
 text-sound bs h =

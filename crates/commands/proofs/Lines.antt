@@ -1,4 +1,4 @@
--- A line is read as the command that it writes. Assumes nothing.
+-- A line is read as the command that it writes.
 use mathlib.Core.Path.{_≡_, refl, sym, ap, _∙_}
 use mathlib.Core.Bool.{Bool, true, false, cond}
 use mathlib.Core.List.{List, [], _∷_, _++_}
@@ -52,8 +52,8 @@ listed-sound : (bs : List ℕ) → Holds (Listed bs) (listed bs)
 listed-sound bs =
     holds-onto (Parts bs) (Listed bs) (λ p. mapped (λ n. (n, p .1)) (narrow-of (p .0))) (field-of bs) (field-sound bs)
     (λ p e.
-      holds-mapped (Number 32 (p .0)) (Listed bs) (λ n. (n, p .1)) (narrow-of (p .0)) (narrow-sound (p .0))
-      (λ n h. (h .0, ap (λ s. s ++ (32 ∷ p .1)) (h .1) ∙ e)))
+    holds-mapped (Number 32 (p .0)) (Listed bs) (λ n. (n, p .1)) (narrow-of (p .0)) (narrow-sound (p .0))
+    (λ n h. (h .0, ap (λ s. s ++ (32 ∷ p .1)) (h .1) ∙ e)))
 
 listed-decimal : (n : ℕ) (rest : List ℕ) → n < 2 ^ 32 → listed (decimal n ++ (32 ∷ rest)) ≡ Some (n, rest)
 listed-decimal n rest h = rw (field-figures (decimal n) rest (decimal-figures n (omega arith)), narrow-decimal n h)
@@ -115,18 +115,20 @@ fields-sound bs words.Write =
 fields-sound bs words.Pick =
     holds-onto (Listed bs) (Fielded (codes "PICK") bs) (λ q. mapped (pick (q .0)) (number-of (q .1))) (listed bs) (listed-sound bs)
     (λ q h.
-      holds-mapped (Number 64 (q .1)) (Fielded (codes "PICK") bs) (pick (q .0)) (number-of (q .1)) (number-sound (q .1))
-      (λ k e. ((h .0, e .0), ap (λ s. after-word (codes "PICK") (after-word (decimal (q .0)) s)) (e .1) ∙ ap (after-word (codes "PICK")) (h .1))))
+    holds-mapped (Number 64 (q .1)) (Fielded (codes "PICK") bs) (pick (q .0)) (number-of (q .1)) (number-sound (q .1))
+    (λ k e. ((h .0, e .0), ap (λ s. after-word (codes "PICK") (after-word (decimal (q .0)) s)) (e .1) ∙ ap (after-word (codes "PICK")) (h .1))))
 fields-sound bs words.Join =
     holds-onto (Listed bs) (Fielded (codes "JOIN") bs) (λ q. onto (λ p. mapped (join (q .0) (p .0)) (narrow-of (p .1))) (listed (q .1))) (listed bs) (listed-sound bs)
     (λ q h.
-      holds-onto (Listed (q .1)) (Fielded (codes "JOIN") bs) (λ p. mapped (join (q .0) (p .0)) (narrow-of (p .1))) (listed (q .1)) (listed-sound (q .1))
-      (λ p f.
-        holds-mapped (Number 32 (p .1)) (Fielded (codes "JOIN") bs) (join (q .0) (p .0)) (narrow-of (p .1)) (narrow-sound (p .1))
-        (λ n e. ((h .0, f .0, e .0),
-          ap (λ s. after-word (codes "JOIN") (after-word (decimal (q .0)) (after-word (decimal (p .0)) s))) (e .1)
+    holds-onto (Listed (q .1)) (Fielded (codes "JOIN") bs) (λ p. mapped (join (q .0) (p .0)) (narrow-of (p .1))) (listed (q .1)) (listed-sound (q .1))
+    (λ p f.
+    holds-mapped (Number 32 (p .1)) (Fielded (codes "JOIN") bs) (join (q .0) (p .0)) (narrow-of (p .1)) (narrow-sound (p .1))
+    (λ n e. (
+      (h .0, f .0, e .0),
+      ap (λ s. after-word (codes "JOIN") (after-word (decimal (q .0)) (after-word (decimal (p .0)) s))) (e .1)
           ∙ ap (λ s. after-word (codes "JOIN") (after-word (decimal (q .0)) s)) (f .1)
-          ∙ ap (after-word (codes "JOIN")) (h .1)))))
+          ∙ ap (after-word (codes "JOIN")) (h .1),
+    ))))
 fields-sound bs words.Receive = receive-sound bs (is-text bs) refl
 
 -- a line that is read writes what it is read as
@@ -137,10 +139,10 @@ line-sound : (bs : List ℕ) → Holds (Written bs) (line-of bs)
 line-sound bs =
     holds-onto (Parts bs) (Written bs) (λ p. onto (fields-of (p .1)) (word-of (p .0))) (field-of bs) (field-sound bs)
     (λ p e.
-      holds-onto (Named (p .0)) (Written bs) (fields-of (p .1)) (word-of (p .0)) (word-sound (p .0))
-      (λ w n.
-        holds-weaker (Fielded (word-text w) (p .1)) (Written bs) (fields-of (p .1) w) (fields-sound (p .1) w)
-        (λ l h. (h .0, h .1 ∙ ap (λ s. after-word s (p .1)) n ∙ e))))
+    holds-onto (Named (p .0)) (Written bs) (fields-of (p .1)) (word-of (p .0)) (word-sound (p .0))
+    (λ w n.
+    holds-weaker (Fielded (word-text w) (p .1)) (Written bs) (fields-of (p .1) w) (fields-sound (p .1) w)
+    (λ l h. (h .0, h .1 ∙ ap (λ s. after-word s (p .1)) n ∙ e))))
 
 -- a line that writes a command is read as that command
 line-written : (l : Line) → InRange l → line-of (written l) ≡ Some l

@@ -1,4 +1,4 @@
--- A number read from its digits, and written in decimal. Assumes nothing.
+-- A number read from its digits, and written in decimal.
 use mathlib.Core.Path.{_≡_, refl, sym, ap, subst, _∙_}
 use mathlib.Core.Bool.{Bool, true, false, cond, not, _&&_}
 use mathlib.Core.List.{List, [], _∷_, _++_}
@@ -62,9 +62,9 @@ grown-sound : (n b : ℕ) → Holds (Grown n b) (grown n b)
 grown-sound n b =
     holds-cond (Grown n b) (leb 48 b && leb b 57 && ltb (n * 10 + (b - 48)) 18446744073709551616) (n * 10 + (b - 48)) None
     (λ e.
-      let p = and-parts (leb 48 b && leb b 57) (ltb (n * 10 + (b - 48)) 18446744073709551616) e in
-      let q = and-parts (leb 48 b) (leb b 57) (p .0) in
-      (ltb-true _ _ (p .1), (leb-true _ _ (q .0), leb-true _ _ (q .1)), refl))
+    let p = and-parts (leb 48 b && leb b 57) (ltb (n * 10 + (b - 48)) 18446744073709551616) e in
+    let q = and-parts (leb 48 b) (leb b 57) (p .0) in
+    (ltb-true _ _ (p .1), (leb-true _ _ (q .0), leb-true _ _ (q .1)), refl))
     tt
 
 abbrev After : ℕ → List ℕ → ℕ → Type 0
@@ -75,8 +75,8 @@ after-sound n [] h = (h, tt, refl)
 after-sound n (b ∷ bs) h =
     holds-onto (Grown n b) (After n (b ∷ bs)) (λ m. number-after m bs) (grown n b) (grown-sound n b)
     (λ m g.
-      holds-weaker (After m bs) (After n (b ∷ bs)) (number-after m bs) (after-sound m bs (g .0))
-      (λ k a. (a .0, (g .1, a .1), a .2 ∙ ap (λ x. read-on x bs) (g .2))))
+    holds-weaker (After m bs) (After n (b ∷ bs)) (number-after m bs) (after-sound m bs (g .0))
+    (λ k a. (a .0, (g .1, a .1), a .2 ∙ ap (λ x. read-on x bs) (g .2))))
 
 -- plain digits have no leading zero
 plain-first : (ds : List ℕ) → plain ds ≡ true → (0 < length ds) × (getD ds 0 0 ≡ 48 → length ds ≡ 1)
@@ -133,9 +133,9 @@ after-decimal n h =
     decimal-by-steps (λ m ds. m < 2 ^ 64 → number-after 0 ds ≡ Some m)
     (λ m small _. after-push 0 [] (48 + m) ∙ grown-digit 0 m small (omega arith) ∙ ap (λ k. Some k) (omega arith))
     (λ m ds big before fits.
-      after-push 0 ds (48 + m % 10) ∙ ap (onto (λ k. grown k (48 + m % 10))) (before (omega arith))
-      ∙ grown-digit (m / 10) (m % 10) (omega arith) (omega arith)
-      ∙ ap (λ k. Some k) (omega arith))
+    after-push 0 ds (48 + m % 10) ∙ ap (onto (λ k. grown k (48 + m % 10))) (before (omega arith))
+    ∙ grown-digit (m / 10) (m % 10) (omega arith) (omega arith)
+    ∙ ap (λ k. Some k) (omega arith))
     n h h
 
 plain-from : (ds : List ℕ) → 0 < length ds → (getD ds 0 0 ≡ 48 → length ds ≡ 1) → plain ds ≡ true

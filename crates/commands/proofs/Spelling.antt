@@ -1,4 +1,4 @@
--- A number written from its last digit to its first, and a line that is ended. Assumes nothing.
+-- A number written from its last digit to its first, and a line that is ended.
 use mathlib.Core.Path.{_≡_, refl, sym, ap, _∙_}
 use mathlib.Core.List.{List, [], _∷_, _++_}
 use Prim.Native.Nat.{ℕ, _+_, _-_, _/_, _%_, _^_, _<_, _≤_}

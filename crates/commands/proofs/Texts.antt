@@ -1,4 +1,4 @@
--- Fields and numbers of a line. Assumes nothing.
+-- Fields and numbers of a line.
 use mathlib.Core.Path.{_≡_, refl, sym, ap, _∙_}
 use mathlib.Core.Bool.{Bool, true, false, cond, _&&_}
 use mathlib.Core.List.{List, [], _∷_}

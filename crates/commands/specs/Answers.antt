@@ -1,4 +1,4 @@
--- The text of an answer. Assumes nothing.
+-- The text of an answer.
 use mathlib.Core.List.{List, [], _∷_, _++_}
 use Prim.Native.Nat.{ℕ}
 use lib.Chars.{codes}

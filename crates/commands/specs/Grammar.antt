@@ -1,4 +1,4 @@
--- The command language: what a line can say, and how that is written. Assumes nothing.
+-- The command language: what a line can say, and how that is written.
 use mathlib.Core.List.{List, [], _∷_, _++_}
 use mathlib.Core.Path.{_≡_}
 use Prim.Native.Nat.{ℕ, _^_, _<_, _≤_}

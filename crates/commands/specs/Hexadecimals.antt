@@ -1,4 +1,4 @@
--- Bytes as hexadecimal text. Assumes nothing.
+-- Bytes as hexadecimal text.
 use mathlib.Core.Bool.{Bool, true, cond, _&&_, _||_}
 use mathlib.Core.List.{List, [], _∷_}
 use mathlib.Core.Path.{_≡_}

@@ -1,4 +1,4 @@
--- What a command that borrows from its line means. Assumes nothing.
+-- What a command that borrows from its line means.
 use Rattle.commands.specs.declared.command.Command.{Command}
 use Rattle.commands.specs.declared.command.Command.the-variants.{Add, Remove, Holds, Under, Count, Write, Pick, Join, Receive}
 use Rattle.commands.specs.Grammar.{Line}

@@ -1,4 +1,4 @@
--- What a call leaves in a lent output. Assumes nothing.
+-- What a call leaves in a lent output.
 use mathlib.Core.List.{List, _++_}
 use mathlib.Core.Path.{_≡_}
 use Prim.Native.Nat.{ℕ, _<_, _≤_}

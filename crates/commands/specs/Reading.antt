@@ -1,4 +1,4 @@
--- A line read from left to right: a computation that proofs go by. What it must find is said in Grammar. Assumes nothing.
+-- A line read from left to right: a computation that proofs go by. What it must find is said in Grammar.
 use mathlib.Core.Bool.{Bool, true, false, cond, not, _&&_}
 use mathlib.Core.List.{List, [], _∷_}
 use Prim.Native.Nat.{ℕ, _+_, _-_, _*_}

@@ -92,14 +92,12 @@ fn read_fields<'a>(word: Word, text: &'a [u8]) -> Option<Command<'a>>
             let (list, code) = split_u32(text)?;
             Some(Command::Under { list, code })
         }
-        Word::Count => {
-            let list = read_u32(text)?;
-            Some(Command::Count { list })
-        }
-        Word::Write => {
-            let list = read_u32(text)?;
-            Some(Command::Write { list })
-        }
+        Word::Count => Some(Command::Count {
+            list: read_u32(text)?,
+        }),
+        Word::Write => Some(Command::Write {
+            list: read_u32(text)?,
+        }),
         Word::Pick => {
             let (list, rest) = split_u32(text)?;
             let k = read_u64(rest)?;
@@ -109,14 +107,14 @@ fn read_fields<'a>(word: Word, text: &'a [u8]) -> Option<Command<'a>>
             let (rule, rest) = split_u32(text)?;
             let (first, rest) = split_u32(rest)?;
             let second = read_u32(rest)?;
-            Some(Command::Join { rule, first, second })
+            Some(Command::Join {
+                rule,
+                first,
+                second,
+            })
         }
-        Word::Receive => {
-            if !is_hex(text) {
-                return None;
-            }
-            Some(Command::Receive { hex: text })
-        }
+        Word::Receive if is_hex(text) => Some(Command::Receive { hex: text }),
+        Word::Receive => None,
     }
 }
 

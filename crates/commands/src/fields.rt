@@ -65,10 +65,7 @@ pub fn read_u32(digits: &[u8]) -> Option<u32>
     ensures { λ r. ⌜ r ≡ narrow-of (now (digits .entry)) ⌝ }
 {
     let n = read_u64(digits)?;
-    if n > 0xffff_ffff {
-        return None;
-    }
-    Some(n as u32)
+    u32::try_from(n).ok()
 }
 
 // A number of 32 bits, and what stands after its space.

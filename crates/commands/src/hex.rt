@@ -26,7 +26,7 @@ fn is_digit(b: u8) -> bool
 }
 
 // Whether a text writes bytes: an even number of digits.
-pub fn is_hex(text: &[u8]) -> bool
+pub(crate) fn is_hex(text: &[u8]) -> bool
     ensures { λ r. ⌜ r ≡ is-text (now (text .entry)) ⌝ }
 {
     for b in text {

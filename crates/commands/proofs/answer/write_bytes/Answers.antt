@@ -18,7 +18,7 @@ returns-then-is-empty c =
 
 pub returns-in-Break-n : need.returns-in-Break-n
 returns-in-Break-n c =
-    let p = err-from-errBy (c .from-residual .result) (c .from-residual .ensures .1) in 
+    let p = err-from-errBy (c .from-residual .result) (c .from-residual .ensures .1) in
     let more = length-push (hexadecimal (c .args .bytes .now)) 10 in
     let room = c .in-Break-n .ensures tt .answer in
     rw (p .1) (omega arith, room .1)

@@ -39,5 +39,5 @@ returns c =
     record {
       most = omega (arith, length-most (c .args .n) (omega arith));
       value = c .count-digits-count .ensures;
-      after = put-last (c .loop-rest .rest) (c .loop-rest .at) _ (c .loop-rest .out) (omega arith) (omega arith) (omega arith) (c .loop-rest .inv .1)
+      after = put-last (c .loop-rest .rest) (c .loop-rest .at) _ (c .loop-rest .out) (omega arith) (omega arith) (omega arith) (c .loop-rest .inv .1);
     }

@@ -12,7 +12,7 @@ pub returns-then-not-is-hex : need.returns-then-not-is-hex
 returns-then-not-is-hex c =
     record {
       answer = ((λ h. both-ways _ (sym (c .is-hex .ensures) ∙ c .if-not-is-hex .taken) (text-complete (c .args .hex .now) h)), refl);
-      once = hex-once (c .args .hex .now)
+      once = hex-once (c .args .hex .now);
     }
 
 pub returns-then-out-count : need.returns-then-out-count
@@ -20,7 +20,7 @@ returns-then-out-count c =
     let text = text-sound (c .args .hex .now) (sym (c .if-not-is-hex .ensures tt)) in
     record {
       answer = (text .0, text .1, (omega (arith, ap length (text .1 .1), length-hex (text .0)), refl));
-      once = hex-once (c .args .hex .now)
+      once = hex-once (c .args .hex .now);
     }
 
 pub read-pair-requires : need.read-pair-requires
@@ -47,5 +47,5 @@ returns c =
         (c .loop-i .inv .1, c .loop-i .inv .0 ∙ whole),
         (omega arith, omega arith, read-all (c .loop-i .out) (c .args .out .now) (c .loop-i .i) _ end (c .loop-i .inv .2)),
       );
-      once = hex-once (c .args .hex .now)
+      once = hex-once (c .args .hex .now);
     }

@@ -22,5 +22,5 @@ returns c =
     let end : c .loop-i .i ≡ length (c .args .bytes .now) = omega arith in
     let all : take (c .loop-i .i) (c .args .bytes .now) ≡ c .args .bytes .now = take-all (c .loop-i .i) (c .args .bytes .now) (omega arith) in
     record {
-      answer = (omega arith, sym long, c .loop-i .inv ∙ (λ j. hexadecimal (all j) ++ drop (2 * end j) (c .args .out .now)))
+      answer = (omega arith, sym long, c .loop-i .inv ∙ (λ j. hexadecimal (all j) ++ drop (2 * end j) (c .args .out .now)));
     }
