@@ -6,7 +6,7 @@ use Prim.Native.Nat.{ℕ, _+_, _<_, _≤_, _^_}
 use native.Mathlib.Omega.{arith}
 use lib.Dec.{ltb, leb}
 use lib.ListN.{length}
-use Rattle.std.proofs.shelf.Tests.{ltb-false, lt-leb, le-leb}
+use Rattle.std.proofs.shelf.Tests.{ltb-false, le-ltb, lt-leb, le-leb}
 use Rattle.std.specs.declared.option.Option.{Option}
 use Rattle.std.specs.declared.option.Option.the-variants.{Some, None}
 use Rattle.std.specs.declared.result.Result.{Result}
@@ -36,20 +36,33 @@ answered-is (Some f) e x y p = let z : _≡_ {A = ℕ} 0 1 = cc in absurd (omega
 pub good-list : {S : Type 0} (vs : List (Vertex S)) (n : ℕ) → ltb (length vs + 1) n ≡ false → Good vs n
 good-list vs n e = ltb-false (length vs + 1) n e
 
+pub few-codes : (n : ℕ) (fault : Fault) → n < 2 ^ 64 → check (leb (2 ^ 64) n) fault None ≡ None
+few-codes n fault h = ap (λ b. check b fault None) (lt-leb (2 ^ 64) n h)
+
+pub many-codes : (n : ℕ) (fault : Fault) → 2 ^ 64 ≤ n → check (leb (2 ^ 64) n) fault None ≡ Some fault
+many-codes n fault h = ap (λ b. check b fault None) (le-leb (2 ^ 64) n h)
+
 -- a count below 2^64, and one from there on
 pub counted-few : (faults : Option Fault → Option Fault) (n c : ℕ) (fault : Fault) → ((behind : Option Fault) → faults behind ≡ behind) → c ≡ n → c < 2 ^ 64 →
     Ok c ≡ answered (faults (check (leb (2 ^ 64) n) fault None)) n
 counted-few faults n c fault through e h =
-    let small : leb (2 ^ 64) n ≡ false = lt-leb (2 ^ 64) n (omega arith) in
-    answered-is _ (through _ ∙ ap (λ b. check b fault None) small) c n e
+    answered-is _ (through _ ∙ few-codes n fault (omega arith)) c n e
 
 pub counted-many : (faults : Option Fault → Option Fault) (n : ℕ) (fault : Fault) → ((behind : Option Fault) → faults behind ≡ behind) → 2 ^ 64 ≤ n →
     _≡_ {A = Result ℕ Fault} (Err fault) (answered (faults (check (leb (2 ^ 64) n) fault None)) n)
 counted-many faults n fault through h =
-    let large : leb (2 ^ 64) n ≡ true = le-leb (2 ^ 64) n h in
-    sym (ap (λ o. answered o n) (through _ ∙ ap (λ b. check b fault None) large))
+    sym (ap (λ o. answered o n) (through _ ∙ many-codes n fault h))
 
 -- no check refuses, so what comes then is what is to be shown
 pub then-comes : {A : Type 0} (faults : Option Fault) (r : Result A Fault) (same then : Type 0) → faults ≡ None → then → Checked faults r same then
 then-comes None r same then e t = t
 then-comes (Some f) r same then e t = let z : _≡_ {A = ℕ} 0 1 = cc in absurd (omega arith)
+
+-- a check refuses, and nothing changes
+pub refuses : (A : Type 0) (faults : Option Fault) (fault : Fault) (same then : Type 0) → faults ≡ Some fault → same → Checked {A = A} faults (Err fault) same then
+refuses A None fault same then e t = let z : _≡_ {A = ℕ} 0 1 = cc in absurd (omega arith)
+refuses A (Some f) fault same then e t = (let p : f ≡ fault = cc in ap Err (sym p), t)
+
+-- a rule from 0 to 7
+pub rule-passes : (rule : ℕ) (fault : Fault) (behind : Option Fault) → rule ≤ 7 → check (ltb 7 rule) fault behind ≡ behind
+rule-passes rule fault behind h = ap (λ b. check b fault behind) (le-ltb 7 rule h)

@@ -19,7 +19,8 @@ use Rattle.ledger.proofs.Canon.{Kind, is-0, is-1, is-vertex, kind, vertex-good}
 use Rattle.ledger.proofs.Rows.{listed-getD}
 use Rattle.ledger.proofs.Drawn.{pictured}
 use Rattle.ledger.proofs.Gathering.{cleared, kept-held}
-use Rattle.store.proofs.Shortness.{Short, AllShort, short-none, short-blank, listed-short}
+use Rattle.counting.specs.Picks.{Short}
+use Rattle.store.proofs.Shortness.{AllShort, short-none, short-blank, listed-short}
 
 kept-few : {A : Type 0} (ms : List Bool) (xs : List A) → length (keep ms xs) ≤ length xs
 kept-few [] xs = omega arith

@@ -25,14 +25,16 @@ use Rattle.ledger.proofs.Gathering.{sound-empty}
 use Rattle.ledger.proofs.Downs.{down-sound}
 use Rattle.memory.specs.declared.recall.Question.{Question}
 use Rattle.memory.specs.declared.work.Place.{Place}
+use Rattle.joining.specs.Recalled.{RightEntry}
+use Rattle.counting.specs.Picks.{Short}
 use Rattle.store.specs.declared.fault.Fault.{Fault}
 use Rattle.store.specs.State.{State, Forgotten, Checked, check, check-lists, check-work}
-use Rattle.store.specs.Calls.{Joins, JoinedDown, Answers, ClearsOut, ClearedOut}
+use Rattle.store.specs.Calls.{Joins, JoinedDown, ClearsOut, ClearedOut}
 use Rattle.store.specs.Run.{Run, fitted-out, adds, removes, joins, clears-out, unders, holds, looks, counts-codes, counts-vertices, picks, NumberIsList}
 use Rattle.store.proofs.Checks.{good-list}
-use Rattle.store.proofs.Shortness.{Short, AllShort, short-none, short-blank, down-short}
+use Rattle.store.proofs.Shortness.{AllShort, short-none, short-blank, down-short}
 use Rattle.store.proofs.Clearing.{gather-sound, gather-short, gather-few}
-use Rattle.store.proofs.Standing.{Standing, checked, passes, laid, list-proper, join-proper, join-short, answers-stay, down-long, added-stands, removed-stands}
+use Rattle.store.proofs.Standing.{Standing, checked, passes, laid, list-proper, join-proper, join-short, entry-stays, down-long, added-stands, removed-stands}
 
 module _ {S : Type 0} (before : S → S → Bool) (order : Order before) (capacity : ℕ) where
   empty-stands : (s : State S) → capacity ≤ 1000000 → s .vertices ≡ [] → Forgotten (s .table) → Standing before capacity s
@@ -62,10 +64,10 @@ module _ {S : Type 0} (before : S → S → Bool) (order : Order before) (capaci
           small = st .small;
         }
       where
-        by : (q : Question) (k : ℕ) → (s .table q ≡ Some k) ⊎ Answers before capacity (s′ .vertices) q k → Answers before capacity (s′ .vertices) q k
+        by : (q : Question) (k : ℕ) → (s .table q ≡ Some k) ⊎ RightEntry before (s′ .vertices) q k → RightEntry before (s′ .vertices) q k
         by q k (inl h) =
-            subst⁻¹ (λ (vs : List (Vertex S)). Answers before capacity vs q k) (l .0 .1)
-            (answers-stay before order capacity (s .vertices) t (st .sound) proper q k (st .right q k h))
+            subst⁻¹ (λ (vs : List (Vertex S)). RightEntry before vs q k) (l .0 .1)
+            (entry-stays before order capacity (s .vertices) t (st .sound) proper q k (st .right q k h))
         by q k (inr a) = a
     joined t (Err fault) proper short l = laid before order capacity s s′ t (Err fault) st proper short l
 

@@ -7,20 +7,17 @@ use Prim.Native.Nat.{ℕ, zero, suc, _+_, _≤_, _<_}
 use native.Mathlib.Omega.{arith}
 use lib.ListN.{length, getD}
 use Rattle.symbols.specs.Order.{Order}
-use Rattle.ledger.specs.Lists.{Codes, none, blank, begun, Member, Proper}
+use Rattle.ledger.specs.Lists.{Codes, none, blank, begun, Member, Proper, Part}
 use Rattle.ledger.specs.declared.Vertex.{Vertex}
 use Rattle.ledger.specs.Diagrams.{Good, Sound}
 use Rattle.ledger.specs.Ledger.{listed, number, lay, list-in, lists, codes, down}
+use Rattle.counting.specs.Picks.{Short}
 use Rattle.ledger.proofs.Rows.{listed-getD, known-held, number-good, list-number, lay-ledger}
 use Rattle.ledger.proofs.Drawn.{Pictured, pictured, lists-vertices-of}
-use Rattle.ledger.proofs.Parts.{Part, lay-parts}
+use Rattle.ledger.proofs.Parts.{lay-parts}
 use Rattle.ledger.proofs.Downs.{down-sound}
 
--- every code has at most 64 symbols
-abbrev pub Short : {S : Type 0} → Codes S → Type 0
-Short {S} t = (c : List S) → Member t c → length c ≤ 64
-
--- so has every code of a good number
+-- every code of a good number has at most 64 symbols
 abbrev pub AllShort : {S : Type 0} → List (Vertex S) → Type 0
 AllShort vs = (n : ℕ) → Good vs n → Short (codes vs n)
 

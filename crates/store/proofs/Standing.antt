@@ -29,20 +29,18 @@ use Rattle.ledger.proofs.Finite.{single-proper, single-in}
 use Rattle.ledger.proofs.Downs.{down-sound}
 use Rattle.memory.specs.declared.recall.Question.{Question}
 use Rattle.memory.specs.declared.work.Place.{Place}
+use Rattle.joining.specs.Recalled.{Right, RightEntry}
+use Rattle.counting.specs.Picks.{Short}
 use Rattle.store.specs.declared.fault.Fault.{Fault}
 use Rattle.store.specs.State.{State, Forgotten, check, check-lists, check-code, check-work, Checked}
-use Rattle.store.specs.Calls.{Adds, Removes, Joins, LaidDown, JoinedDown, Answers, change-checks}
+use Rattle.store.specs.Calls.{Adds, Removes, LaidDown, change-checks}
 use Rattle.store.proofs.Checks.{good-list}
-use Rattle.store.proofs.Shortness.{Short, AllShort, short-none, short-blank, down-short}
-
--- every entry of the recall table is right of the vertices
-abbrev pub Right : {S : Type 0} → (S → S → Bool) → ℕ → List (Vertex S) → (Question → Option ℕ) → Type 0
-Right before capacity vs table = (q : Question) (n : ℕ) → table q ≡ Some n → Answers before capacity vs q n
+use Rattle.store.proofs.Shortness.{AllShort, short-none, short-blank, down-short}
 
 pub record Standing {S : Type 0} (before : S → S → Bool) (capacity : ℕ) (s : State S) : Type 0 where
   pub sound : Sound before (s .vertices)
   pub short : AllShort (s .vertices)
-  pub right : Right before capacity (s .vertices) (s .table)
+  pub right : Right before (s .vertices) (s .table)
   pub few : length (s .vertices) ≤ capacity
   pub small : capacity ≤ 1000000
 
@@ -73,17 +71,18 @@ module _ {S : Type 0} (before : S → S → Bool) (order : Order before) (capaci
         let a = lay-adds before order (lists vs) t in
         ap (λ r. list-in r n) (rows ∙ a .1) ∙ list-front before order (lists vs) (a .0) n (omega (arith, P .long))
 
-    pub answers-stay : (q : Question) (n : ℕ) → Answers before capacity vs q n → Answers before capacity (down before vs t) q n
-    answers-stay q n a =
+    pub entry-stays : (q : Question) (n : ℕ) → RightEntry before vs q n → RightEntry before (down before vs t) q n
+    entry-stays q n a =
         let g = down-grows in
-        let first-good = a .0 in
-        let second-good = a .1 in
-        let answer-good = a .2 in (
-          omega arith,
-          omega arith,
-          omega arith,
-          down-codes n (a .2) ∙ a .3 ∙ ap₂ (join before (takes (q .rule))) (sym (down-codes (q .first) (a .0))) (sym (down-codes (q .second) (a .1))),
-        )
+        let first-good = a .first in
+        let second-good = a .second in
+        let answer-good = a .answer in
+        record {
+          first = omega arith;
+          second = omega arith;
+          answer = omega arith;
+          is = down-codes n answer-good ∙ a .is ∙ ap₂ (join before (takes (q .rule))) (sym (down-codes (q .first) first-good)) (sym (down-codes (q .second) second-good));
+        }
 
   -- members of a join are members of one of the two
   pub join-short : (f : Bool → Bool → Bool) → f false false ≡ false → (t u : Codes S) → Proper before t → Proper before u → Short t → Short u → Short (join before f t u)
@@ -111,7 +110,7 @@ module _ {S : Type 0} (before : S → S → Bool) (order : Order before) (capaci
       record {
         sound = rw e (down-sound before order (s .vertices) t (st .sound) proper);
         short = subst⁻¹ AllShort e (down-short before order (s .vertices) t (st .sound) proper (st .short) short);
-        right = λ q k h. subst⁻¹ (λ (vs : List (Vertex S)). Answers before capacity vs q k) e (answers-stay (s .vertices) t (st .sound) proper q k (st .right q k (sym (ap (λ (f : Question → Option ℕ). f q) (l .1)) ∙ h)));
+        right = λ q k h. subst⁻¹ (λ (vs : List (Vertex S)). RightEntry before vs q k) e (entry-stays (s .vertices) t (st .sound) proper q k (st .right q k (sym (ap (λ (f : Question → Option ℕ). f q) (l .1)) ∙ h)));
         few = omega (arith, ap length e, down-long (s .vertices) t (st .sound) proper, l .0 .0);
         small = st .small;
       }

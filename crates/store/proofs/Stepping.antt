@@ -9,12 +9,12 @@ use Rattle.std.specs.declared.result.Result.{Result}
 use Rattle.std.specs.declared.result.Result.the-variants.{Ok, Err}
 use Rattle.symbols.specs.Wire.{Travel}
 use Rattle.ledger.specs.Ledger.{codes}
-use Rattle.ledger.specs.Operations.{added, removed}
+use Rattle.ledger.specs.Operations.{takes, join, added, removed}
 use Rattle.memory.specs.declared.work.Place.{Place}
 use Rattle.store.specs.declared.fault.Fault.{Fault}
 use Rattle.store.specs.State.{State}
-use Rattle.store.specs.Calls.{LaidDown, Adds, Removes, change-checks}
-use Rattle.store.specs.Run.{Stands, adds, removes}
+use Rattle.store.specs.Calls.{LaidDown, Adds, Removes, change-checks, JoinedDown, Joins, join-checks}
+use Rattle.store.specs.Run.{Stands, adds, removes, joins}
 use Rattle.store.proofs.Checks.{then-comes}
 
 module _ {S : Type 0} (before : S → S → Bool) (capacity : ℕ) (s s′ : State S) (list : ℕ) (code : List S) (work : List Place) (r : Result ℕ Fault)
@@ -28,3 +28,12 @@ module _ {S : Type 0} (before : S → S → Bool) (capacity : ℕ) (s s′ : Sta
   removing laid =
       let step : Removes before capacity s list code work r s′ = then-comes (change-checks before capacity s list code work) r (s′ ≡ s) (LaidDown before capacity s (removed before (codes (s .vertices) list) code) r s′) passed laid in
       (step, record { ready = ready (st .ready); run = removes s list code work r (st .run) step })
+
+module _ {S : Type 0} (before : S → S → Bool) (capacity : ℕ) (s s′ : State S) (rule first second : ℕ) (work : List Place) (r : Result ℕ Fault)
+    (passed : join-checks before capacity s rule first second work ≡ None) (travel : Option (Travel S)) (Ready Ready′ : Type 0) (st : Stands before travel capacity Ready s) (ready : Ready → Ready′) where
+  pub joined : JoinedDown before capacity s (join before (takes rule) (codes (s .vertices) first) (codes (s .vertices) second)) r s′ →
+      Joins before capacity s rule first second work r s′ × Stands before travel capacity Ready′ s′
+  joined laid =
+      let t = join before (takes rule) (codes (s .vertices) first) (codes (s .vertices) second) in
+      let step : Joins before capacity s rule first second work r s′ = then-comes (join-checks before capacity s rule first second work) r (s′ ≡ s) (JoinedDown before capacity s t r s′) passed laid in
+      (step, record { ready = ready (st .ready); run = joins s rule first second work r (st .run) step })

@@ -13,18 +13,18 @@ use Rattle.std.specs.declared.option.Option.{Option}
 use Rattle.std.specs.declared.option.Option.the-variants.{Some, None}
 use Rattle.std.specs.declared.result.Result.{Result}
 use Rattle.std.specs.declared.result.Result.the-variants.{Ok, Err}
-use Rattle.ledger.specs.declared.Vertex.{Vertex}
 use Rattle.ledger.specs.Lists.{Codes}
-use Rattle.ledger.specs.Diagrams.{look, parts, Good, Reached, Counts}
+use Rattle.ledger.specs.Diagrams.{look, parts, Reached, Counts}
 use Rattle.ledger.specs.Ledger.{lists, codes, number, Lays}
 use Rattle.ledger.specs.Operations.{has, takes, join, added, removed, under}
 use Rattle.ledger.specs.Ordered.{ordered}
 use Rattle.ledger.specs.Gather.{gather, renumber, Keeps}
 use Rattle.memory.specs.declared.recall.Question.{Question}
 use Rattle.memory.specs.declared.work.Place.{Place}
+use Rattle.joining.specs.Recalled.{RightEntry}
 use Rattle.store.specs.declared.fault.Fault.{Fault}
 use Rattle.store.specs.declared.fault.Fault.the-variants.{NoSuchList, CodeTooLong, NoSuchRule, ShortOutput, LittleWork, TooManyCodes, NoSuchCode, ShelfFull}
-use Rattle.store.specs.State.{State, Forgotten, check, check-lists, check-code, check-work, answered, Checked}
+use Rattle.store.specs.State.{State, Forgotten, check, check-lists, check-code, check-work, check-output, answered, Checked}
 
 module _ {S : Type 0} (before : S → S → Bool) (capacity : ℕ) where
   -- a list is laid down, and the table stays; or the shelf is full, the vertices stay, and the table is forgotten
@@ -46,22 +46,20 @@ module _ {S : Type 0} (before : S → S → Bool) (capacity : ℕ) where
   Removes s list code work r s′ =
       Checked (change-checks s list code work) r (s′ ≡ s) (LaidDown s (removed before (codes (s .vertices) list) code) r s′)
 
-  -- an entry that is right of these vertices
-  abbrev pub Answers : List (Vertex S) → Question → ℕ → Type 0
-  Answers vs q n =
-      Good vs (q .first) × Good vs (q .second) × Good vs n ×
-      (codes vs n ≡ join before (takes (q .rule)) (codes vs (q .first)) (codes vs (q .second)))
-
   -- the join of two lists by a rule, laid down; its number. Each entry of the table after is an old one, or right.
   abbrev pub JoinedDown : State S → Codes S → Result ℕ Fault → State S → Type 0
   JoinedDown s t (Ok n) s′ =
       Lays {F = Fault} before capacity (s .vertices) t (Ok n) (s′ .vertices) ×
-      ((q : Question) (k : ℕ) → s′ .table q ≡ Some k → (s .table q ≡ Some k) ⊎ Answers (s′ .vertices) q k)
+      ((q : Question) (k : ℕ) → s′ .table q ≡ Some k → (s .table q ≡ Some k) ⊎ RightEntry before (s′ .vertices) q k)
   JoinedDown s t (Err fault) s′ = LaidDown s t (Err fault) s′
+
+  abbrev pub join-checks : State S → ℕ → ℕ → ℕ → List Place → Option Fault
+  join-checks s rule first second work =
+      check-lists (s .vertices) 0 (first ∷ second ∷ []) (check (ltb 7 rule) NoSuchRule (check-work capacity work None))
 
   abbrev pub Joins : State S → ℕ → ℕ → ℕ → List Place → Result ℕ Fault → State S → Type 0
   Joins s rule first second work r s′ =
-      Checked (check-lists (s .vertices) 0 (first ∷ second ∷ []) (check (ltb 7 rule) NoSuchRule (check-work capacity work None))) r
+      Checked (join-checks s rule first second work) r
       (s′ ≡ s) (JoinedDown s (join before (takes rule) (codes (s .vertices) first) (codes (s .vertices) second)) r s′)
 
   -- what remains of the codes that begin with a code: its number, which it has already
@@ -103,11 +101,12 @@ module _ {S : Type 0} (before : S → S → Bool) (capacity : ℕ) where
   Picked s list k out (Err fault) out′ =
       (fault ≡ NoSuchCode) × (length (ordered (codes (s .vertices) list)) ≤ k) × (out′ ≡ out)
 
+  abbrev pub pick-checks : State S → ℕ → List S → List Place → Option Fault → Option Fault
+  pick-checks s list out work behind = check-lists (s .vertices) 0 (list ∷ []) (check-output out (check-work capacity work behind))
+
   abbrev pub Picks : State S → ℕ → ℕ → List S → List Place → Result ℕ Fault → List S → Type 0
   Picks s list k out work r out′ =
-      Checked
-      (check-lists (s .vertices) 0 (list ∷ []) (check (ltb (length out) 64) ShortOutput
-      (check-work capacity work (check-many (ordered (codes (s .vertices) list)) None)))) r
+      Checked (pick-checks s list out work (check-many (ordered (codes (s .vertices) list)) None)) r
       (out′ ≡ out) (Picked s list k out r out′)
 
   -- exactly the lists of the keep-list and all reached from them stay, in their order; the keep-list gets their new

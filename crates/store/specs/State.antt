@@ -44,6 +44,10 @@ check-code code behind = check (ltb 64 (length code)) CodeTooLong behind
 abbrev pub check-work : ℕ → List Place → Option Fault → Option Fault
 check-work capacity work behind = check (ltb (length work) (2 * capacity + 256)) LittleWork behind
 
+-- the output has room for 64 symbols
+abbrev pub check-output : {S : Type 0} → List S → Option Fault → Option Fault
+check-output out behind = check (ltb (length out) 64) ShortOutput behind
+
 -- refused by a check, or this answer
 abbrev pub answered : {A : Type 0} → Option Fault → A → Result A Fault
 answered None a = Ok a

@@ -6,11 +6,13 @@ ghost use mathlib.Core.Path.{_≡_};
 ghost use Rattle.std.specs.declared.option.Option.{Option};
 ghost use Rattle.symbols.specs.Wire.{Travel};
 ghost use Rattle.store.specs.State.{state};
-ghost use Rattle.store.specs.Calls.{Looks, Holds, Unders, CountsCodes, CountsVertices};
+ghost use Rattle.store.specs.Calls.{Looks, Holds, Unders, CountsCodes, CountsVertices, Picks};
 ghost use Rattle.store.specs.Run.{Asks};
 use crate::fault::Fault;
 use crate::store::check_code;
+use crate::store::check_output;
 use crate::store::Store;
+use counting::picking::PickFault;
 use memory::recall::RecallTable;
 use memory::shelf::Shelf;
 use memory::work::Place;
@@ -62,5 +64,21 @@ impl<S: Symbol, B: Shelf<S>, R: RecallTable> Store<S, B, R> {
         self.check_list(0, list)?;
         self.check_work(work)?;
         Ok(counting::marking::vertices(&self.shelf, list, work))
+    }
+
+    // The code with k before it, at the start of `out`, and its length; symbols past it don't change. Codes come in the
+    // code order: a code comes before one that it begins, else the first differing symbol decides. Refused 2, 8, 3, 6, 7.
+    // Time: the numbers up to the list's.
+    pub fn pick(&self, list: u32, k: u64, out: &mut [S], work: &mut [Place]) -> Result<usize, Fault>
+        ensures { λ r. ⌜ Asks (S·Symbol .before) (B·Shelf .capacity (now (self .entry) .shelf)) (B·Shelf .ready (now (self .entry) .shelf)) (state (B·Shelf .vertices (now (self .entry) .shelf)) (R·RecallTable .table (now (self .entry) .recall))) (Picks (S·Symbol .before) (B·Shelf .capacity (now (self .entry) .shelf)) (state (B·Shelf .vertices (now (self .entry) .shelf)) (R·RecallTable .table (now (self .entry) .recall))) list k (now (out .entry)) (now (work .entry)) r (now (out .exit))) ⌝ }
+    {
+        self.check_list(0, list)?;
+        check_output(out)?;
+        self.check_work(work)?;
+        match counting::picking::pick(&self.shelf, list, k, out, work) {
+            Ok(length) => Ok(length),
+            Err(PickFault::TooMany) => Err(Fault::TooManyCodes),
+            Err(PickFault::NoSuchCode) => Err(Fault::NoSuchCode),
+        }
     }
 }

@@ -8,7 +8,7 @@ ghost use mathlib.Core.Path.{_≡_};
 ghost use Rattle.std.specs.declared.option.Option.{Option};
 ghost use Rattle.std.specs.declared.option.Option.the-variants.{Some, None};
 ghost use Rattle.symbols.specs.Wire.{Travel};
-ghost use Rattle.store.specs.State.{state, check-lists, check-code, check-work, answered};
+ghost use Rattle.store.specs.State.{state, check-lists, check-code, check-work, check-output, answered};
 ghost use Rattle.store.specs.Run.{Stands, NumberIsList};
 use crate::fault::Fault;
 use memory::recall::RecallTable;
@@ -84,6 +84,16 @@ pub(crate) fn check_code<S: Symbol>(code: &[S]) -> Result<(), Fault>
 {
     if code.len() > LONGEST_CODE {
         return Err(Fault::CodeTooLong);
+    }
+    Ok(())
+}
+
+// Refuses an output with room for fewer than 64 symbols.
+pub(crate) fn check_output<S: Symbol>(out: &[S]) -> Result<(), Fault>
+    ensures { λ r. ⌜ r ≡ answered (check-output (now (out .entry)) None) tt ⌝ }
+{
+    if out.len() < LONGEST_CODE {
+        return Err(Fault::ShortOutput);
     }
     Ok(())
 }
