@@ -17,9 +17,9 @@ use Rattle.ledger.specs.Gather.{Marked, Whole, Keeps}
 use Rattle.ledger.specs.Statements.{Numbered, LaidDown, ClearedOut, ClearingOut}
 use Rattle.ledger.proofs.Canon.{Kind, is-0, is-1, is-vertex, kind, vertex-good}
 use Rattle.ledger.proofs.Sets.{proper-same}
-use Rattle.ledger.proofs.Rows.{Known, number-good, list-number, known-list, known-laid, lay-knows, lay-ledger}
+use Rattle.ledger.proofs.Rows.{Known, number-good, list-number, known-list, known-laid, lay-parts, lay-knows, lay-ledger}
 use Rattle.ledger.proofs.Drawn.{pictured, codes-proper, has-member, member-has}
-use Rattle.ledger.proofs.Parts.{lay-parts, known-part}
+use Rattle.ledger.proofs.Parts.{known-part}
 use Rattle.ledger.proofs.Gathering.{cleared}
 use Rattle.ledger.proofs.Downs.{is-laid}
 use Rattle.ledger.proofs.Marks.{some-marks, only-marks}

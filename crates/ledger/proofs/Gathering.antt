@@ -1,7 +1,7 @@
 -- The vertices of a ledger are sound, and keeping marked vertices keeps the marked lists.
 use mathlib.Core.Path.{_≡_, refl, sym, ap, ap₂, subst, subst⁻¹, _∙_}
 use mathlib.Core.Bool.{Bool, true, false}
-use mathlib.Core.List.{List, [], _∷_, _++_, map, append-nil}
+use mathlib.Core.List.{List, [], _∷_, _++_, map, append-nil, map-append}
 use mathlib.Core.Logic.{_⊎_, inl, inr, _≢_}
 use Prim.Native.Nat.{ℕ, zero, suc, _+_, _≤_, _<_}
 use native.Mathlib.Omega.{arith}
@@ -92,10 +92,6 @@ module _ {A : Type 0} where
   map-kept f g (m ∷ ms) [] h = refl
   map-kept f g (true ∷ ms) (x ∷ xs) h = ap₂ (λ y ys. y ∷ ys) (h 0 x refl) (map-kept f g ms xs (λ k y e. h (suc k) y e))
   map-kept f g (false ∷ ms) (x ∷ xs) h = map-kept f g ms xs (λ k y e. h (suc k) y e)
-
-  map-append : {B : Type 0} (f : A → B) (xs ys : List A) → map f (xs ++ ys) ≡ map f xs ++ map f ys
-  map-append f [] ys = refl
-  map-append f (x ∷ xs) ys = ap (λ r. f x ∷ r) (map-append f xs ys)
 
 last-mark : (ms : List Bool) (n : ℕ) → length ms ≡ suc n → (front : List Bool) × (b : Bool) × (ms ≡ front ++ b ∷ []) × (length front ≡ n)
 last-mark [] n l = absurd (omega arith)
