@@ -23,4 +23,5 @@ pub mod Downs
 pub mod Settling
 pub mod Members
 pub mod Picking
+pub mod Marks
 pub mod Changing

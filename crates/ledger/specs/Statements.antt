@@ -1,11 +1,11 @@
 -- What is proved of every row of vertices, every diagram and every dispatch.
 use mathlib.Core.Path.{_≡_}
 use mathlib.Core.Bool.{Bool}
-use mathlib.Core.List.{List, _++_, List·Memᴰ}
-use mathlib.Core.Logic.{_↔_}
+use mathlib.Core.List.{List, [], _++_, List·Memᴰ}
+use mathlib.Core.Logic.{_↔_, _⊎_}
 use Prim.Native.Nat.{ℕ, _≤_}
 use lib.ListN.{length}
-use Rattle.ledger.specs.Lists.{Codes, Member, Proper}
+use Rattle.ledger.specs.Lists.{Codes, Member, Proper, Part}
 use Rattle.ledger.specs.declared.Vertex.{Vertex}
 use Rattle.ledger.specs.Diagrams.{Has, SameCodes, Good, Formed, Different, Sound, IsDiagram, Reached, Counts}
 use Rattle.ledger.specs.Ledger.{lay, lists, codes, down, down-number, fresh}
@@ -44,11 +44,21 @@ Attained {S} before =
     (vs : List (Vertex S)) → Sound before vs → (n : ℕ) → Good vs n →
     LeastDiagram before vs n (fresh before (codes vs n) .drawn) (fresh before (codes vs n) .root)
 
+-- the vertices of a fresh ledger are sound
+abbrev pub FreshSound : {S : Type 0} → (S → S → Bool) → Type 0
+FreshSound {S} before = Sound {S = S} before []
+
+-- the list has a number
+abbrev pub Numbered : {S : Type 0} → List (Vertex S) → Codes S → Type 0
+Numbered vs t = (m : ℕ) × Good vs m × (codes vs m ≡ t)
+
 -- a list t has been laid down on vertices vs: they are ws now, and t has number n
 pub record LaidDown {S : Type 0} (before : S → S → Bool) (vs : List (Vertex S)) (t : Codes S) (ws : List (Vertex S)) (n : ℕ) : Type 0 where
   pub sound : Sound before ws
   -- the row of lists is what the ledger says, in its order
   pub row : lists ws ≡ lay before (lists vs) t
+  -- a list has a number then exactly if it had one before, or is a part of t
+  pub numbered : (u : Codes S) → Numbered ws u ↔ (Numbered vs u ⊎ Part t u)
   -- vertices are only appended, and no old number changes its codes
   pub appended : (more : List (Vertex S)) × (ws ≡ vs ++ more)
   pub old : (m : ℕ) → Good vs m → SameCodes vs m ws m
@@ -75,9 +85,11 @@ pub record ClearedOut {S : Type 0} (before : S → S → Bool) (vs : List (Verte
   pub kept : (k : ℕ) → List·Memᴰ k ks → Good vs k → Marked ms k
   pub renumbered : (n : ℕ) → Good vs n → Marked ms n → Good (gather ms vs) (renumber ms n) × SameCodes vs n (gather ms vs) (renumber ms n)
 
-abbrev pub ClearingOut : {S : Type 0} → (S → S → Bool) → Type 0
-ClearingOut {S} before =
-    (vs : List (Vertex S)) → Sound before vs → (ks : List ℕ) (ms : List Bool) → Keeps vs ks ms → ClearedOut before vs ks ms
+pub record ClearingOut {S : Type 0} (before : S → S → Bool) : Type 0 where
+  pub leaves : (vs : List (Vertex S)) → Sound before vs → (ks : List ℕ) (ms : List Bool) → Keeps vs ks ms → ClearedOut before vs ks ms
+  -- there are such marks, and only one row of them
+  pub some : (vs : List (Vertex S)) → Sound before vs → (ks : List ℕ) → (ms : List Bool) × Keeps vs ks ms
+  pub only : (vs : List (Vertex S)) (ks : List ℕ) (ms ns : List Bool) → Keeps vs ks ms → Keeps vs ks ns → ms ≡ ns
 
 -- what is written of a list is read back as that list
 abbrev pub ReadBack : {S : Type 0} → (S → S → Bool) → Type 0
@@ -91,6 +103,13 @@ abbrev pub Accepted : {S : Type 0} → (S → S → Bool) → Type 0
 Accepted {S} before =
     (vs : List (Vertex S)) → Formed before vs → (root : ℕ) → Good vs root →
     (Different vs × Visits vs 0 root (length vs)) ↔ (fresh before (codes vs root) ≡ record { drawn = vs; root = root })
+
+-- so of the bytes: those of formed vertices and a root are what writing the root's list gives under the same conditions
+abbrev pub Received : {S : Type 0} → (S → S → Bool) → (kind width : ℕ) → (S → List ℕ) → Type 0
+Received {S} before kind width bytes =
+    (vs : List (Vertex S)) → Formed before vs → length vs ≤ 1000000 → (root : ℕ) → Good vs root →
+    (Different vs × Visits vs 0 root (length vs)) ↔
+    (dispatch kind width bytes (fresh before (codes vs root)) ≡ dispatch kind width bytes (record { drawn = vs; root = root }))
 
 -- a list written from one row and a list written from another give equal bytes exactly when they have the same codes
 abbrev pub WrittenAlike : {S : Type 0} → (S → S → Bool) → (kind width : ℕ) → (S → List ℕ) → Type 0
