@@ -1,7 +1,8 @@
 // A list with a code, and without one. One walk serves both: down the code's path, a frame in the work space for each
 // vertex on it and each symbol that has none, and back up, each frame making its vertex anew. Outer lists come before
 // inner lists, so what is appended is what laying the list down appends, in its order. Down, a step costs one read of a
-// vertex; back up, at most one read and one search of the shelf. Nothing to change is known at the bottom.
+// vertex; back up, at most one read and one search of the shelf. Whether there is anything to change is
+// known at the bottom, before the shelf is touched.
 ghost use lib.ListN.{length};
 ghost use mathlib.Core.Path.{_≡_};
 ghost use Prim.Native.Nat.{_+_, _≤_};
@@ -103,6 +104,8 @@ fn descend<S: Symbol, B: Shelf<S>>(shelf: &B, list: u32, code: &[S], work: &mut 
 }
 
 // The number of the list that a frame waited to make, once what it waited for has its number; no vertex has one link 0.
+// The vertex and the symbol that a frame names are there on any shelf that keeps its rules, and on any other the walk
+// goes on without them.
 fn resume<S: Symbol, B: Shelf<S>>(
     shelf: &mut B,
     code: &[S],
