@@ -1,0 +1,4 @@
+mod Indices
+mod Chaining
+mod Walking
+mod Rooms
