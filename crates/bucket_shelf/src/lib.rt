@@ -9,3 +9,4 @@ pub mod chain;
 pub mod entry;
 pub mod lent;
 pub mod place;
+pub mod shelf;

@@ -1,7 +1,22 @@
+use Prim.Native.Nat.{ℕ, _+_, _-_, min}
+use lib.ListN.{length}
+use mathlib.Core.Path.{_≡_, sym}
+use native.Mathlib.Omega.{arith}
+use Rattle.bucket_shelf.proofs.Indices.{nth-entry}
+use Rattle.bucket_shelf.proofs.Chaining.{chained-unlink}
 use Rattle.bucket_shelf.proofs.chain.unlink.Needs as need
 
 pub loop-top-again : need.loop-top-again
-loop-top-again g c = ?again
+loop-top-again g c =
+    let es = c .args .records .now in
+    let e = c .entry-at-entry .result in
+    let u = c .loop-top .top - 1 in
+    let more : c .loop-top .top ≡ u + 1 = omega arith in (
+      omega arith,
+      omega arith,
+      λ h. chained-unlink (g .S·Symbol .scatter) es (c .loop-top .heads) u (c .bucket .result) e
+        (nth-entry es u e (omega arith) (c .entry-at-entry .ensures)) (c .bucket .ensures .value) (c .bucket .ensures .within) (rw more at (c .loop-top .inv .2 h)),
+    )
 
 pub returns : need.returns
-returns g c = ?returns
+returns g c = λ h. let e : c .loop-top .top ≡ min (c .args .used) (c .args .n) = omega arith in rw (← e) (c .loop-top .inv .2 h)

@@ -4,4 +4,4 @@ use Rattle.bucket_shelf.proofs.place.mix.Needs as need
 
 pub returns : need.returns
 unfolding mixed
-returns c = ?
+returns c = refl
