@@ -2,13 +2,23 @@
 use Prim.Native.Nat.{ℕ, zero, suc, _<_}
 use mathlib.Core.Bool.{Bool}
 use mathlib.Core.List.{List, [], _∷_}
+use mathlib.Core.Path.{_≡_}
+use Rattle.std.specs.declared.option.Option.the-variants.{Some}
 use Rattle.ledger.specs.declared.Vertex.{Vertex}
+use Rattle.ledger.specs.Diagrams.{look}
 use Rattle.ledger.specs.Gather.{Marked}
 use Rattle.memory.specs.declared.work.Place.{Place}
 
 -- a link of the vertex `own` that leads below it, to a terminal or to a marked vertex
 abbrev pub Stays : List Bool → ℕ → ℕ → Type 0
 Stays ms own link = (link < own) × Marked ms link
+
+-- the vertex `own` is unmarked, or both its links stay
+abbrev pub BothStay : {S : Type 0} → List Bool → ℕ → Vertex S → Type 0
+BothStay ms own v = Marked ms own → Stays ms own (v .zero) × Stays ms own (v .one)
+
+abbrev pub AllStay : {S : Type 0} → List Bool → List (Vertex S) → Type 0
+AllStay {S} ms vs = (n : ℕ) (v : Vertex S) → look vs n ≡ Some v → BothStay ms n v
 
 -- the number in place k, or another one past the places
 abbrev pub number-at : List Place → ℕ → ℕ → ℕ

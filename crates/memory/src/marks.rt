@@ -7,7 +7,7 @@ ghost use mathlib.Core.Bool.{true};
 ghost use mathlib.Core.Logic.{_↔_};
 ghost use mathlib.Core.Path.{_≡_};
 ghost use Rattle.ledger.specs.Gather.{marked-before, renumber, renumbered, Marked};
-ghost use Rattle.memory.specs.Marks.{noted, noted-vertex, Stays};
+ghost use Rattle.memory.specs.Marks.{noted, noted-vertex, Stays, BothStay};
 ghost use Rattle.memory.specs.Shelves.{marks-in, Renumbered};
 use crate::work::Place;
 use ledger::Vertex;
@@ -54,7 +54,7 @@ pub fn link_stays(marks: &[Place], own: u32, link: u32) -> bool
 
 // Whether the vertex `own` is unmarked, or both its links may stay.
 pub fn vertex_stays<S: Symbol>(marks: &[Place], own: u32, vertex: Vertex<S>) -> bool
-    ensures { λ r. ⌜ (r ≡ true) ↔ (Marked (marks-in (now (marks .entry))) own → Stays (marks-in (now (marks .entry))) own (vertex .zero) × Stays (marks-in (now (marks .entry))) own (vertex .one)) ⌝ }
+    ensures { λ r. ⌜ (r ≡ true) ↔ BothStay (marks-in (now (marks .entry))) own vertex ⌝ }
 {
     if !is_marked(marks, own) {
         return true;
