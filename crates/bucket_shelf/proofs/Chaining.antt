@@ -3,7 +3,7 @@ use Prim.Native.Nat.{ℕ, _+_, _-_, _<_, _≤_, min}
 use lib.ListN.{length, getD, set}
 use mathlib.Core.List.{List}
 use mathlib.Core.Logic.{⊎-elim}
-use mathlib.Core.Path.{_≡_, refl, sym, ap, _∙_}
+use mathlib.Core.Path.{_≡_, refl, sym, ap, subst, _∙_}
 use native.Mathlib.Omega.{arith}
 use Rattle.std.specs.Finite.{nth}
 use Rattle.std.specs.declared.option.Option.the-variants.{Some}
@@ -120,7 +120,11 @@ module _ {S : Type 0} (f : S → ℕ) where
       chained-from es (set hs b (e .next)) u n vs (sym (length-set hs b (e .next))) refl
       (λ d h.
       ⊎-elim
-      (λ i. let o : getD (set hs b (e .next)) d 0 ≡ e .next = rw i (getD-set-same hs b (e .next) 0 m) in rw (o, i, r) (c .nexts u e (omega arith) at))
+      (λ i.
+      let o : getD (set hs b (e .next)) d 0 ≡ e .next = rw i (getD-set-same hs b (e .next) 0 m) in
+      let last-first : u < u + 1 = omega arith in
+      let P : ℕ → Type 0 = λ x. Top (bucket f n) vs u x (e .next) in
+      rw o (subst P (sym (i ∙ r)) (c .nexts u e last-first at)))
       (λ i. let o : getD (set hs b (e .next)) d 0 ≡ getD hs d 0 = getD-set-other hs b d (e .next) 0 i in rw o (top-less-apart (bucket f n) vs u d (getD hs d 0) (e .vertex) last (λ z. i (sym z ∙ sym r)) (c .heads d h)))
       (cases-eq d b))
       (λ j x h k. c .nexts j x (omega arith) k)

@@ -1,5 +1,5 @@
 -- What stands at an index of records, of the front of a list, of a list with one place written.
-use Prim.Native.Nat.{ℕ, zero, suc, _-_, _<_, _≤_}
+use Prim.Native.Nat.{ℕ, zero, suc, _+_, _-_, _<_, _≤_}
 use lib.ListN.{length, getD, take, set}
 use mathlib.Core.List.{List, [], _∷_, map}
 use mathlib.Core.Path.{_≡_, refl, sym, ap, _∙_}
@@ -81,3 +81,6 @@ module _ {S : Type 0} where
   look-entry es u n e h k l p =
       look-at (take u (vertices-in es)) n k ∙
       nth-part (vertices-in es) u (n - 2) (e .vertex) l (nth-map vertex-of es (n - 2) e (nth-entry es (n - 2) e (omega arith) p))
+
+  pub look-index : (es : List (Entry S)) (u i : ℕ) (e : Entry S) → u ≤ length es → i < u → e ≡ getD es i e → look (take u (vertices-in es)) (i + 2) ≡ Some (e .vertex)
+  look-index es u i e h l p = let z : i + 2 - 2 ≡ i = omega arith in look-entry es u (i + 2) e h (omega arith) (omega arith) (rw z p)

@@ -2,3 +2,4 @@ mod Indices
 mod Chaining
 mod Walking
 mod Rooms
+mod Keeping

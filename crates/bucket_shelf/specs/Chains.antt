@@ -10,6 +10,9 @@ use Rattle.std.specs.Finite.{nth}
 use Rattle.std.specs.declared.option.Option.{Option}
 use Rattle.std.specs.declared.option.Option.the-variants.{Some, None}
 use Rattle.ledger.specs.declared.Vertex.{Vertex}
+use Rattle.ledger.specs.Gather.{gather, Gatherable}
+use Rattle.memory.specs.declared.work.Place.{Place}
+use Rattle.memory.specs.Shelves.{marks-in, Renumbered}
 use Rattle.bucket_shelf.specs.declared.entry.Entry.{Entry}
 use Rattle.bucket_shelf.specs.Place.{bucket}
 
@@ -39,6 +42,10 @@ pub record Chained {S : Type 0} (scatter : S → ℕ) (es : List (Entry S)) (hs 
   pub nexts : (j : ℕ) (e : Entry S) → j < u → nth es j ≡ Some e →
       Top (bucket scatter (length hs)) (vertices-in es) j (bucket scatter (length hs) (e .vertex)) (e .next)
 
+-- the chains of a shelf that has so many in use
+abbrev pub Ready : {S : Type 0} → (S → ℕ) → ℕ → List (Entry S) → List ℕ → Type 0
+Ready scatter used es hs = Chained scatter es hs (min used (room es hs))
+
 pub room-under : (h l : ℕ) → (cond (eqb h 0) 0 (min l 1000000) ≤ l) × (cond (eqb h 0) 0 (min l 1000000) ≤ 1000000)
 room-under h l =
     elim (eqb h 0) as (λ b. (cond b 0 (min l 1000000) ≤ l) × (cond b 0 (min l 1000000) ≤ 1000000)) [
@@ -48,3 +55,11 @@ room-under h l =
 
 pub within : {S : Type 0} (used : ℕ) (es : List (Entry S)) (hs : List ℕ) → (length (shelved used es hs) ≤ room es hs) × (room es hs ≤ 1000000)
 within used es hs = (omega (arith, length-take (min used (room es hs)) (vertices-in es)), room-under (length hs) (length es) .1)
+
+-- the first u records become the marked ones, k many, in chains of their own, and each place has its vertex's new
+-- number; or the marks do not fit, and nothing changes
+abbrev pub Gathers : {S : Type 0} → (S → ℕ) → ℕ → List Place → List (Entry S) → List ℕ → Option ℕ → List Place → List (Entry S) → List ℕ → Type 0
+Gathers scatter u ps es hs None qs es′ hs′ = (Gatherable (marks-in ps) (take u (vertices-in es)) → ⊥) × (es′ ≡ es) × (hs′ ≡ hs) × (qs ≡ ps)
+Gathers scatter u ps es hs (Some k) qs es′ hs′ =
+    Gatherable (marks-in ps) (take u (vertices-in es)) × (k ≤ u) × (take k (vertices-in es′) ≡ gather (marks-in ps) (take u (vertices-in es))) ×
+    Renumbered ps qs × Chained scatter es′ hs′ k

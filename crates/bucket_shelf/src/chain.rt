@@ -2,9 +2,8 @@
 ghost use Prim.Native.Nat.{ℕ, _+_, _-_, _<_, _≤_, min};
 ghost use lib.Dec.{eqb};
 ghost use lib.ListN.{length, take, set, getD};
-ghost use mathlib.Core.Bool.{Bool, true, false, cond};
+ghost use mathlib.Core.Bool.{cond};
 ghost use mathlib.Core.List.{List};
-ghost use mathlib.Core.Logic.{_↔_};
 ghost use mathlib.Core.Path.{_≡_};
 ghost use Rattle.std.specs.Options.{mapped};
 ghost use Rattle.ledger.specs.Diagrams.{look, parts};
@@ -14,8 +13,8 @@ ghost use Rattle.bucket_shelf.specs.Chains.{vertices-in, Chained};
 use crate::entry::Entry;
 use crate::place;
 use ledger::Vertex;
+use memory::reading::same_vertex;
 use symbols::Symbol;
-use symbols::same;
 
 // How many vertices there may be over so many records and heads.
 pub fn capacity(records: usize, heads: usize) -> u32
@@ -26,13 +25,6 @@ pub fn capacity(records: usize, heads: usize) -> u32
     } else {
         records.min(1_000_000) as u32
     }
-}
-
-// Whether two vertices are equal: links first, since they differ most often and cost least.
-pub fn equal<S: Symbol>(a: Vertex<S>, b: Vertex<S>) -> bool
-    ensures { λ r. ⌜ (r ≡ true) ↔ (a ≡ b) ⌝ }
-{
-    a.zero == b.zero && a.one == b.one && same(a.label, b.label)
 }
 
 // The record at an index.
@@ -47,7 +39,10 @@ pub fn look<S: Symbol>(records: &[Entry<S>], used: u32, n: u32) -> Option<(S, u3
     requires { ⌜ used ≤ length (now records) ⌝ ∗ ⌜ used ≤ 1000000 ⌝ }
     ensures { λ r. ⌜ r ≡ mapped parts (look (take used (vertices-in (now (records .entry)))) n) ⌝ }
 {
-    if n < 2 || n - 2 >= used {
+    if n < 2 {
+        return None;
+    }
+    if n - 2 >= used {
         return None;
     }
     let entry = entry_at(records, n - 2);
@@ -64,7 +59,7 @@ pub fn find<S: Symbol>(records: &[Entry<S>], heads: &[u32], used: u32, at: usize
     let mut top = heads[at].min(used);
     while top > 0 {
         let entry = entry_at(records, top - 1);
-        if equal(entry.vertex, vertex) {
+        if same_vertex(entry.vertex, vertex) {
             found = Some(top + 1);
         }
         top = entry.next.min(top - 1);

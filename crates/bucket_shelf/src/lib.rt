@@ -7,6 +7,7 @@
 // and the heads.
 pub mod chain;
 pub mod entry;
+pub mod gather;
 pub mod lent;
 pub mod place;
 pub mod shelf;

@@ -1,11 +1,12 @@
 // The bucket shelf: a shelf over records and heads that it is lent. Its first `used` records hold its vertices, as far as
 // the capacity goes.
-ghost use Prim.Native.Nat.{ℕ, min};
+ghost use Prim.Native.Nat.{ℕ, _+_, _<_, min};
 ghost use denote.Ref.{now};
 ghost use lib.ListN.{length};
-ghost use mathlib.Core.List.{List, []};
+ghost use mathlib.Core.List.{List, [], _∷_, _++_};
 ghost use mathlib.Core.Path.{_≡_};
-ghost use Rattle.bucket_shelf.specs.Chains.{Chained, room, shelved, within};
+ghost use Rattle.bucket_shelf.specs.Place.{bucket};
+ghost use Rattle.bucket_shelf.specs.Chains.{Ready, room, shelved, within};
 use crate::chain;
 use crate::entry::Entry;
 use crate::lent;
@@ -38,6 +39,34 @@ impl<'a, S: Symbol> BucketShelf<'a, S> {
             used: 0,
         }
     }
+
+    // How many vertices there may be.
+    fn room(&self) -> u32
+        ensures { λ r. ⌜ r ≡ room (now (now (self .entry) .records .at)) (now (now (self .entry) .heads .at)) ⌝ }
+    {
+        chain::capacity(self.records.at.len(), self.heads.at.len())
+    }
+
+    // How many records hold vertices.
+    fn in_use(&self) -> u32
+        ensures { λ r. ⌜ r ≡ min (now (self .entry) .used) (room (now (now (self .entry) .records .at)) (now (now (self .entry) .heads .at))) ⌝ }
+    {
+        self.used.min(self.room())
+    }
+
+    // One vertex more, in its bucket, with its number.
+    fn push(&mut self, at: usize, vertex: Vertex<S>) -> u32
+        requires { ⌜ now self .used < room (now (now self .records .at)) (now (now self .heads .at)) ⌝ ∗ ⌜ at < length (now (now self .heads .at)) ⌝ }
+        ensures number { λ r. ⌜ r ≡ length (shelved (now (self .entry) .used) (now (now (self .entry) .records .at)) (now (now (self .entry) .heads .at))) + 2 ⌝ }
+        ensures vertices { λ _. ⌜ shelved (now (self .exit) .used) (now (now (self .exit) .records .at)) (now (now (self .exit) .heads .at)) ≡ shelved (now (self .entry) .used) (now (now (self .entry) .records .at)) (now (now (self .entry) .heads .at)) ++ vertex ∷ [] ⌝ }
+        ensures ready { λ _. ⌜ (at ≡ bucket (S·Symbol .scatter) (length (now (now (self .entry) .heads .at))) vertex → Ready (S·Symbol .scatter) (now (self .entry) .used) (now (now (self .entry) .records .at)) (now (now (self .entry) .heads .at)) → Ready (S·Symbol .scatter) (now (self .exit) .used) (now (now (self .exit) .records .at)) (now (now (self .exit) .heads .at))) ⌝ }
+        ensures size { λ _. ⌜ room (now (now (self .exit) .records .at)) (now (now (self .exit) .heads .at)) ≡ room (now (now (self .entry) .records .at)) (now (now (self .entry) .heads .at)) ⌝ }
+    {
+        let used = self.used;
+        lent::link(&mut self.records, &mut self.heads, used, at, vertex);
+        self.used = used + 1;
+        used + 2
+    }
 }
 
 pub impl<'a, S: Symbol> Shelf<S> for BucketShelf<'a, S> as BucketShelfShelf {
@@ -45,25 +74,25 @@ pub impl<'a, S: Symbol> Shelf<S> for BucketShelf<'a, S> as BucketShelfShelf {
 
     ghost capacity = { λ s. room (now (s .records .at)) (now (s .heads .at)) };
 
-    ghost ready = { λ s. Chained (S·Symbol .scatter) (now (s .records .at)) (now (s .heads .at)) (min (s .used) (room (now (s .records .at)) (now (s .heads .at)))) };
+    ghost ready = { λ s. Ready (S·Symbol .scatter) (s .used) (now (s .records .at)) (now (s .heads .at)) };
 
     ghost bounds = { λ s. within (s .used) (now (s .records .at)) (now (s .heads .at)) };
 
     fn capacity(&self) -> u32 {
-        chain::capacity(self.records.at.len(), self.heads.at.len())
+        self.room()
     }
 
     fn used(&self) -> u32 {
-        self.used.min(chain::capacity(self.records.at.len(), self.heads.at.len()))
+        self.in_use()
     }
 
     fn look(&self, n: u32) -> Option<(S, u32, u32)> {
-        let used = self.used.min(chain::capacity(self.records.at.len(), self.heads.at.len()));
+        let used = self.in_use();
         chain::look(self.records.at, used, n)
     }
 
     fn find(&self, label: S, zero: u32, one: u32) -> Option<u32> {
-        let used = self.used.min(chain::capacity(self.records.at.len(), self.heads.at.len()));
+        let used = self.in_use();
         if self.heads.at.len() == 0 {
             return None;
         }
@@ -72,45 +101,44 @@ pub impl<'a, S: Symbol> Shelf<S> for BucketShelf<'a, S> as BucketShelfShelf {
     }
 
     fn append(&mut self, label: S, zero: u32, one: u32) -> Result<u32, Full> {
-        let capacity = chain::capacity(self.records.at.len(), self.heads.at.len());
-        let used = self.used.min(capacity);
-        if used >= capacity {
+        if self.used >= self.room() {
             return Err(Full);
         }
         let vertex = Vertex { label, zero, one };
         let at = place::bucket(vertex, self.heads.at.len());
-        lent::link(&mut self.records, &mut self.heads, used, at, vertex);
-        self.used = used + 1;
-        Ok(used + 2)
+        Ok(self.push(at, vertex))
     }
 
     // The bucket is computed once for both.
     fn find_or_append(&mut self, label: S, zero: u32, one: u32) -> Result<u32, Full> {
-        let capacity = chain::capacity(self.records.at.len(), self.heads.at.len());
-        let used = self.used.min(capacity);
         if self.heads.at.len() == 0 {
             return Err(Full);
         }
         let vertex = Vertex { label, zero, one };
         let at = place::bucket(vertex, self.heads.at.len());
-        if let Some(n) = chain::find(self.records.at, self.heads.at, used, at, vertex) {
+        if let Some(n) = lent::find(&self.records, &self.heads, self.in_use(), at, vertex) {
             return Ok(n);
         }
-        if used >= capacity {
+        if self.used >= self.room() {
             return Err(Full);
         }
-        lent::link(&mut self.records, &mut self.heads, used, at, vertex);
-        self.used = used + 1;
-        Ok(used + 2)
+        Ok(self.push(at, vertex))
     }
 
     fn cut(&mut self, n: u32) {
-        let used = self.used.min(chain::capacity(self.records.at.len(), self.heads.at.len()));
+        let used = self.in_use();
         lent::cut(&self.records, &mut self.heads, used, n);
         self.used = used.min(n);
     }
 
     fn gather(&mut self, marks: &mut [Place]) -> bool {
-        false
+        let used = self.in_use();
+        match lent::gather(&mut self.records, &mut self.heads, used, marks) {
+            Some(kept) => {
+                self.used = kept;
+                true
+            }
+            None => false,
+        }
     }
 }

@@ -10,7 +10,7 @@ use Rattle.bucket_shelf.specs.Chains.{vertex-of, vertices-in, Top}
 use Rattle.bucket_shelf.proofs.Indices.{nth-entry, nth-map}
 use Rattle.bucket_shelf.proofs.Walking.{walk-head, walk-next, walk-yes, walk-no, walk-all}
 use Rattle.bucket_shelf.proofs.chain.find.Needs as need
-use Rattle.bucket_shelf.proofs.chain.find.Needs.{then-equal, else-equal}
+use Rattle.bucket_shelf.proofs.chain.find.Needs.{then-same-vertex, else-same-vertex}
 
 pub loop-top-holds : need.loop-top-holds
 loop-top-holds g c = (
@@ -35,9 +35,9 @@ loop-top-again g c =
       λ p h.
           let below : Top in-bucket vs (top - 1) (in-bucket v) next =
           rw (c .min-top-in-loop-top .ensures) (walk-next (g .S·Symbol .scatter) es hs u v h top e (c .loop-top .found) (omega arith) (omega arith) there (c .loop-top .inv .1 p h)) in
-          elim (c .if-equal .came) [
-            | then-equal w ↦ rw (w .found-is) (walk-yes in-bucket vs u v top next (omega arith) (omega arith) (seen ∙ ap Some (c .equal .ensures .0 (w .if-equal .taken))) below)
-            | else-equal w ↦ rw (w .found-is) (walk-no in-bucket vs u v (e .vertex) top next (c .loop-top .found) (omega arith) seen (λ q. both-ways (c .equal .result) (w .if-equal .left) (c .equal .ensures .1 q)) below (c .loop-top .inv .1 p h))
+          elim (c .if-same-vertex .came) [
+            | then-same-vertex w ↦ rw (w .found-is) (walk-yes in-bucket vs u v top next (omega arith) (omega arith) (seen ∙ ap Some (c .same-vertex .ensures .0 (w .if-same-vertex .taken))) below)
+            | else-same-vertex w ↦ rw (w .found-is) (walk-no in-bucket vs u v (e .vertex) top next (c .loop-top .found) (omega arith) seen (λ q. both-ways (c .same-vertex .result) (w .if-same-vertex .left) (c .same-vertex .ensures .1 q)) below (c .loop-top .inv .1 p h))
           ],
     )
 
