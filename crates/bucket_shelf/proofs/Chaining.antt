@@ -10,7 +10,7 @@ use Rattle.std.specs.declared.option.Option.the-variants.{Some}
 use Rattle.std.proofs.shelf.Lists.{length-set, length-map, getD-set-same, getD-set-other, map-set}
 use Rattle.std.proofs.shelf.Tests.{cases-lt, cases-eq}
 use Rattle.ledger.specs.declared.Vertex.{Vertex}
-use Rattle.bucket_shelf.specs.declared.entry.Entry.{Entry}
+use Rattle.bucket_shelf.specs.declared.Entry.{Entry}
 use Rattle.bucket_shelf.specs.Place.{bucket}
 use Rattle.bucket_shelf.specs.Chains.{vertex-of, vertices-in, Top, Chained}
 use Rattle.bucket_shelf.proofs.Indices.{nth-map, nth-set-other, nth-set-same}

@@ -12,7 +12,7 @@ use Rattle.std.proofs.shelf.Lists.{length-map, length-take, getD-map}
 use Rattle.std.proofs.shelf.Maps.{nth-read, nth-past}
 use Rattle.ledger.specs.declared.Vertex.{Vertex}
 use Rattle.ledger.specs.Diagrams.{look, parts}
-use Rattle.bucket_shelf.specs.declared.entry.Entry.{Entry}
+use Rattle.bucket_shelf.specs.declared.Entry.{Entry}
 use Rattle.bucket_shelf.specs.Chains.{vertex-of, vertices-in}
 
 module _ {X : Type 0} where

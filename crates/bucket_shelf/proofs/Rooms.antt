@@ -8,7 +8,7 @@ use native.Mathlib.Omega.{arith}
 use Rattle.std.proofs.shelf.Lists.{length-take, length-take-le, take-all, take-take, take-more-set}
 use Rattle.std.proofs.shelf.Tests.{cases-lt}
 use Rattle.ledger.specs.declared.Vertex.{Vertex}
-use Rattle.bucket_shelf.specs.declared.entry.Entry.{Entry}
+use Rattle.bucket_shelf.specs.declared.Entry.{Entry}
 use Rattle.bucket_shelf.specs.Chains.{vertices-in, room, room-under, shelved}
 use Rattle.bucket_shelf.proofs.Indices.{length-vertices}
 

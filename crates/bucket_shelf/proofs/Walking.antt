@@ -12,7 +12,7 @@ use Rattle.std.proofs.shelf.Tests.{cases-lt}
 use Rattle.ledger.specs.declared.Vertex.{Vertex}
 use Rattle.ledger.specs.Diagrams.{look}
 use Rattle.ledger.specs.Laid.{First}
-use Rattle.bucket_shelf.specs.declared.entry.Entry.{Entry}
+use Rattle.bucket_shelf.specs.declared.Entry.{Entry}
 use Rattle.bucket_shelf.specs.Place.{bucket}
 use Rattle.bucket_shelf.specs.Chains.{vertex-of, vertices-in, Top, Chained}
 use Rattle.bucket_shelf.proofs.Indices.{nth-whole, nth-part, nth-map, look-at, looks-from-2}

@@ -1,7 +1,7 @@
 -- Records in chains, one chain for each head. Chains go down, from the highest vertex of a bucket to the lowest.
 use Prim.Native.Nat.{ℕ, _-_, _<_, _≤_, min}
 use lib.Dec.{eqb}
-use lib.ListN.{length, getD, take, length-take}
+use lib.ListN.{length, getD, take}
 use mathlib.Core.Bool.{Bool, true, false, cond}
 use mathlib.Core.List.{List, map}
 use mathlib.Core.Path.{_≡_}
@@ -13,7 +13,7 @@ use Rattle.ledger.specs.declared.Vertex.{Vertex}
 use Rattle.ledger.specs.Gather.{gather, Gatherable}
 use Rattle.memory.specs.declared.work.Place.{Place}
 use Rattle.memory.specs.Shelves.{marks-in, Renumbered}
-use Rattle.bucket_shelf.specs.declared.entry.Entry.{Entry}
+use Rattle.bucket_shelf.specs.declared.Entry.{Entry}
 use Rattle.bucket_shelf.specs.Place.{bucket}
 
 abbrev pub vertex-of : {S : Type 0} → Entry S → Vertex S
@@ -42,19 +42,12 @@ pub record Chained {S : Type 0} (scatter : S → ℕ) (es : List (Entry S)) (hs 
   pub nexts : (j : ℕ) (e : Entry S) → j < u → nth es j ≡ Some e →
       Top (bucket scatter (length hs)) (vertices-in es) j (bucket scatter (length hs) (e .vertex)) (e .next)
 
--- the chains of a shelf that has so many in use
-abbrev pub Ready : {S : Type 0} → (S → ℕ) → ℕ → List (Entry S) → List ℕ → Type 0
-Ready scatter used es hs = Chained scatter es hs (min used (room es hs))
-
 pub room-under : (h l : ℕ) → (cond (eqb h 0) 0 (min l 1000000) ≤ l) × (cond (eqb h 0) 0 (min l 1000000) ≤ 1000000)
 room-under h l =
     elim (eqb h 0) as (λ b. (cond b 0 (min l 1000000) ≤ l) × (cond b 0 (min l 1000000) ≤ 1000000)) [
       | true ↦ (omega arith, omega arith)
       | false ↦ (omega arith, omega arith)
     ]
-
-pub within : {S : Type 0} (used : ℕ) (es : List (Entry S)) (hs : List ℕ) → (length (shelved used es hs) ≤ room es hs) × (room es hs ≤ 1000000)
-within used es hs = (omega (arith, length-take (min used (room es hs)) (vertices-in es)), room-under (length hs) (length es) .1)
 
 -- the first u records become the marked ones, k many, in chains of their own, and each place has its vertex's new
 -- number; or the marks do not fit, and nothing changes

@@ -1,6 +1,7 @@
 -- The bucket of a vertex: some function of its label's scatter number and its links. No promise rests on which.
-use Prim.Native.Nat.{ℕ, _+_, _*_, _/_, _%_, _^_}
+use Prim.Native.Nat.{ℕ, _+_, _*_, _/_, _%_, _^_, _<_}
 use lib.Bits.{bitXor}
+use native.Mathlib.Nat.{mod-lt}
 use Rattle.ledger.specs.declared.Vertex.{Vertex}
 
 -- the high half of a word folded onto the low one
@@ -16,3 +17,7 @@ mixed scatter low high =
 -- the bucket of a vertex among so many
 unfoldable pub bucket : {S : Type 0} → (S → ℕ) → ℕ → Vertex S → ℕ
 bucket scatter heads v = mixed (scatter (v .label)) (v .zero) (v .one) % heads
+
+pub bucket-within : {S : Type 0} (scatter : S → ℕ) (heads : ℕ) (v : Vertex S) → 0 < heads → bucket scatter heads v < heads
+unfolding bucket
+bucket-within scatter heads v h = mod-lt (mixed (scatter (v .label)) (v .zero) (v .one)) h

@@ -4,13 +4,15 @@ ghost use lib.Dec.{eqb};
 ghost use lib.ListN.{length, take, set, getD};
 ghost use mathlib.Core.Bool.{cond};
 ghost use mathlib.Core.List.{List};
+ghost use mathlib.Core.Logic.{_⊎_, _≢_};
 ghost use mathlib.Core.Path.{_≡_};
 ghost use Rattle.std.specs.Options.{mapped};
+ghost use Rattle.std.specs.declared.option.Option.the-variants.{Some};
 ghost use Rattle.ledger.specs.Diagrams.{look, parts};
 ghost use Rattle.ledger.specs.Laid.{First};
 ghost use Rattle.bucket_shelf.specs.Place.{bucket};
 ghost use Rattle.bucket_shelf.specs.Chains.{vertices-in, Chained};
-use crate::entry::Entry;
+use crate::Entry;
 use crate::place;
 use ledger::Vertex;
 use memory::reading::same_vertex;
@@ -49,6 +51,18 @@ pub fn look<S: Symbol>(records: &[Entry<S>], used: u32, n: u32) -> Option<(S, u3
     Some((entry.vertex.label, entry.vertex.zero, entry.vertex.one))
 }
 
+// What is found, past the entry of number `top + 1`: that number, if its vertex is the wanted one.
+fn noted<S: Symbol>(found: Option<u32>, top: u32, entry: Entry<S>, wanted: Vertex<S>) -> Option<u32>
+    requires { ⌜ top ≤ 1000000 ⌝ }
+    ensures { λ r. ⌜ ((entry .vertex ≡ wanted) × (r ≡ Some (top + 1))) ⊎ ((entry .vertex ≢ wanted) × (r ≡ found)) ⌝ }
+{
+    if same_vertex(entry.vertex, wanted) {
+        Some(top + 1)
+    } else {
+        found
+    }
+}
+
 // The lowest number of a vertex, by a walk down its bucket's chain. Equal vertices may stand in it more than once, so
 // the walk goes to the end.
 pub fn find<S: Symbol>(records: &[Entry<S>], heads: &[u32], used: u32, at: usize, vertex: Vertex<S>) -> Option<u32>
@@ -59,9 +73,7 @@ pub fn find<S: Symbol>(records: &[Entry<S>], heads: &[u32], used: u32, at: usize
     let mut top = heads[at].min(used);
     while top > 0 {
         let entry = entry_at(records, top - 1);
-        if same_vertex(entry.vertex, vertex) {
-            found = Some(top + 1);
-        }
+        found = noted(found, top, entry, vertex);
         top = entry.next.min(top - 1);
     }
     found
@@ -87,6 +99,15 @@ pub fn clear(heads: &mut [u32])
     }
 }
 
+// Takes an entry off the top of its chain.
+fn drop_top<S: Symbol>(heads: &mut [u32], entry: Entry<S>)
+    requires { ⌜ 0 < length (now heads) ⌝ }
+    ensures { λ _. ⌜ now (heads .exit) ≡ set (now (heads .entry)) (bucket (S·Symbol .scatter) (length (now (heads .entry))) (entry .vertex)) (entry .next) ⌝ }
+{
+    let at = place::bucket(entry.vertex, heads.len());
+    heads[at] = entry.next;
+}
+
 // Takes the vertices from index `n` on out of their chains, the last first: each is then at the top of its chain.
 pub fn unlink<S: Symbol>(records: &[Entry<S>], heads: &mut [u32], used: u32, n: u32)
     requires { ⌜ used ≤ length (now records) ⌝ ∗ ⌜ used ≤ 1000000 ⌝ ∗ ⌜ (0 < used → 0 < length (now heads)) ⌝ }
@@ -94,8 +115,7 @@ pub fn unlink<S: Symbol>(records: &[Entry<S>], heads: &mut [u32], used: u32, n: 
 {
     let mut top = used;
     while top > n {
-        let entry = entry_at(records, top - 1);
-        heads[place::bucket(entry.vertex, heads.len())] = entry.next;
+        drop_top(heads, entry_at(records, top - 1));
         top -= 1;
     }
 }

@@ -1,6 +1,6 @@
 // Gathering: the marked records move to the front, in chains that begin anew.
 ghost use Prim.Native.Nat.{ℕ, _+_, _<_, _≤_};
-ghost use lib.ListN.{length, take};
+ghost use lib.ListN.{length, take, set};
 ghost use mathlib.Core.Bool.{true};
 ghost use mathlib.Core.List.{List, map};
 ghost use mathlib.Core.Logic.{_↔_};
@@ -10,8 +10,9 @@ ghost use Rattle.memory.specs.Marks.{noted-vertex, AllStay};
 ghost use Rattle.memory.specs.Shelves.{marks-in};
 ghost use Rattle.bucket_shelf.specs.Chains.{vertices-in, Chained, Gathers};
 use crate::chain::{clear, entry_at, link};
-use crate::entry::Entry;
+use crate::Entry;
 use crate::place;
+use ledger::Vertex;
 use memory::marks::{is_marked, new_vertex, number_marks, vertex_stays};
 use memory::work::Place;
 use symbols::Symbol;
@@ -30,7 +31,18 @@ pub fn all_stay<S: Symbol>(records: &[Entry<S>], used: u32, marks: &[Place]) -> 
     true
 }
 
-// Moves the marked vertices to the front, their links renumbered from the places, and says how many there are.
+// One kept vertex more, at index `to`, its links renumbered from the places.
+fn keep_vertex<S: Symbol>(records: &mut [Entry<S>], heads: &mut [u32], to: u32, marks: &[Place], vertex: Vertex<S>)
+    requires { ⌜ to < length (now records) ⌝ ∗ ⌜ to < 1000000 ⌝ ∗ ⌜ 0 < length (now heads) ⌝ }
+    ensures vertices { λ _. ⌜ vertices-in (now (records .exit)) ≡ set (vertices-in (now (records .entry))) to (noted-vertex (now (marks .entry)) vertex) ⌝ }
+    ensures ready { λ _. ⌜ (Chained (S·Symbol .scatter) (now (records .entry)) (now (heads .entry)) to → Chained (S·Symbol .scatter) (now (records .exit)) (now (heads .exit)) (to + 1)) ⌝ }
+{
+    let kept = new_vertex(marks, vertex);
+    let at = place::bucket(kept, heads.len());
+    link(records, heads, to, at, kept);
+}
+
+// Moves the marked vertices to the front and says how many there are.
 pub fn keep<S: Symbol>(records: &mut [Entry<S>], heads: &mut [u32], used: u32, marks: &[Place]) -> u32
     requires { ⌜ used ≤ length (now records) ⌝ ∗ ⌜ used ≤ 1000000 ⌝ ∗ ⌜ length (now marks) ≡ used ⌝ ∗ ⌜ (0 < used → 0 < length (now heads)) ⌝ }
     ensures few { λ r. ⌜ r ≤ used ⌝ }
@@ -42,9 +54,7 @@ pub fn keep<S: Symbol>(records: &mut [Entry<S>], heads: &mut [u32], used: u32, m
     for i in 0..used {
         if is_marked(marks, i + 2) {
             let entry = entry_at(records, i);
-            let vertex = new_vertex(marks, entry.vertex);
-            let at = place::bucket(vertex, heads.len());
-            link(records, heads, to, at, vertex);
+            keep_vertex(records, heads, to, marks, entry.vertex);
             to += 1;
         }
     }

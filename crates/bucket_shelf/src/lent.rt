@@ -7,7 +7,7 @@ ghost use Rattle.ledger.specs.Laid.{First};
 ghost use Rattle.bucket_shelf.specs.Place.{bucket};
 ghost use Rattle.bucket_shelf.specs.Chains.{vertices-in, Chained, Gathers};
 use crate::chain;
-use crate::entry::Entry;
+use crate::Entry;
 use crate::gather;
 use ledger::Vertex;
 use memory::work::Place;

@@ -1,16 +1,15 @@
 use Prim.Native.Nat.{_-_, min}
 use lib.ListN.{length}
+use mathlib.Core.Logic.{⊎-elim}
 use mathlib.Core.Path.{_≡_, sym, ap, _∙_}
 use native.Mathlib.Omega.{arith}
 use Rattle.std.specs.Finite.{nth}
 use Rattle.std.specs.declared.option.Option.the-variants.{Some}
-use Rattle.std.proofs.shelf.Tests.{both-ways}
 use Rattle.bucket_shelf.specs.Place.{bucket}
 use Rattle.bucket_shelf.specs.Chains.{vertex-of, vertices-in, Top}
 use Rattle.bucket_shelf.proofs.Indices.{nth-entry, nth-map}
 use Rattle.bucket_shelf.proofs.Walking.{walk-head, walk-next, walk-yes, walk-no, walk-all}
 use Rattle.bucket_shelf.proofs.chain.find.Needs as need
-use Rattle.bucket_shelf.proofs.chain.find.Needs.{then-same-vertex, else-same-vertex}
 
 pub loop-top-holds : need.loop-top-holds
 loop-top-holds g c = (
@@ -35,10 +34,10 @@ loop-top-again g c =
       λ p h.
           let below : Top in-bucket vs (top - 1) (in-bucket v) next =
           rw (c .min-top-in-loop-top .ensures) (walk-next (g .S·Symbol .scatter) es hs u v h top e (c .loop-top .found) (omega arith) (omega arith) there (c .loop-top .inv .1 p h)) in
-          elim (c .if-same-vertex .came) [
-            | then-same-vertex w ↦ rw (w .found-is) (walk-yes in-bucket vs u v top next (omega arith) (omega arith) (seen ∙ ap Some (c .same-vertex .ensures .0 (w .if-same-vertex .taken))) below)
-            | else-same-vertex w ↦ rw (w .found-is) (walk-no in-bucket vs u v (e .vertex) top next (c .loop-top .found) (omega arith) seen (λ q. both-ways (c .same-vertex .result) (w .if-same-vertex .left) (c .same-vertex .ensures .1 q)) below (c .loop-top .inv .1 p h))
-          ],
+          ⊎-elim
+          (λ q. rw (q .1) (walk-yes in-bucket vs u v top next (omega arith) (omega arith) (seen ∙ ap Some (q .0)) below))
+          (λ q. rw (q .1) (walk-no in-bucket vs u v (e .vertex) top next (c .loop-top .found) (omega arith) seen (q .0) below (c .loop-top .inv .1 p h)))
+          (c .noted-found .ensures),
     )
 
 pub returns : need.returns

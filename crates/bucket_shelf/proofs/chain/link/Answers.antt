@@ -2,7 +2,7 @@ use mathlib.Core.Path.{refl}
 use lib.ListN.{getD}
 use native.Mathlib.Omega.{arith}
 use Rattle.std.proofs.shelf.Lists.{map-set}
-use Rattle.bucket_shelf.specs.declared.entry.Entry.{Entry}
+use Rattle.bucket_shelf.specs.declared.Entry.{Entry}
 use Rattle.bucket_shelf.specs.Chains.{vertex-of}
 use Rattle.bucket_shelf.proofs.Chaining.{chained-link}
 use Rattle.bucket_shelf.proofs.chain.link.Needs as need

@@ -22,8 +22,8 @@ loop-i-holds g c = (
   chained-none (g .S·Symbol .scatter) (c .args .records .now) (c .clear .last .heads) (c .clear .ensures),
 )
 
-pub link-requires : need.link-requires
-link-requires g c κs = (omega (arith, c .loop-i .inv .0 .behind), (omega (arith, c .loop-i .inv .0 .behind), c .bucket-at .ensures .within))
+pub keep-vertex-requires : need.keep-vertex-requires
+keep-vertex-requires g c κs = (omega (arith, c .loop-i .inv .0 .behind), (omega (arith, c .loop-i .inv .0 .behind), omega arith))
 
 pub loop-i-again : need.loop-i-again
 loop-i-again g c =
@@ -39,14 +39,12 @@ loop-i-again g c =
     elim (c .if-is-marked .came) [
       | then-is-marked w ↦
         let v = w .entry-at-entry .result .vertex in
-        let written : set (vertices-in es) to (f v) ≡ vertices-in (w .link .last .records) =
-        ap (set (vertices-in es) to) (sym (w .new-vertex-vertex .ensures .noted)) ∙ sym (w .link .ensures .vertices) in
         let P : List (Vertex (g .S .Denot)) → Type 0 = λ ys. Keeps f ms xs ys (to + 1) (i + 1) in
         rw (w .records-is, w .to-is, w .heads-is) (
-          subst P written
+          subst P (sym (w .keep-vertex .ensures .vertices))
           (keeps-yes f ms xs (vertices-in es) to i v in-marks in-records (mark-there ms i (c .is-marked .ensures .0 (w .if-is-marked .taken)))
           (getD-vertices es i (w .entry-at-entry .result) (omega arith) (w .entry-at-entry .ensures)) (c .loop-i .inv .0)),
-          w .link .ensures .ready (w .bucket-at .ensures .value) (c .loop-i .inv .1),
+          w .keep-vertex .ensures .ready (c .loop-i .inv .1),
         )
       | else-is-marked w ↦
         rw (w .records-is, w .to-is, w .heads-is) (
