@@ -3,14 +3,14 @@
 use Prim.Native.Nat.{ℕ, zero, suc, _+_, _<_, _≤_}
 use mathlib.Core.Bool.{Bool, true, false}
 use mathlib.Core.List.{List, [], _∷_, map}
-use mathlib.Core.Logic.{_⊎_, inl, inr}
+use mathlib.Core.Logic.{_↔_, _⊎_, inl, inr}
 use mathlib.Core.Path.{_≡_, refl, sym, ap, ap₂, _∙_}
 use native.Mathlib.Omega.{arith}
 use lib.ListN.{length, getD}
 use Rattle.std.specs.Finite.{nth}
 use Rattle.std.specs.declared.option.Option.the-variants.{Some}
 use Rattle.std.proofs.shelf.Lists.{length-map}
-use Rattle.std.proofs.shelf.Tests.{cases-eq}
+use Rattle.std.proofs.shelf.Tests.{cases-bool, cases-eq, false≢true}
 use Rattle.ledger.specs.declared.Vertex.{Vertex}
 use Rattle.ledger.specs.Diagrams.{look}
 use Rattle.ledger.specs.Gather.{keep, renumber, renumbered, gather, Marked, Gatherable}
@@ -23,6 +23,21 @@ use Rattle.memory.proofs.Marking.{noted-new}
 -- a number that code counts up to
 pub look-at : {S : Type 0} (vs : List (Vertex S)) (i : ℕ) → look vs (i + 2) ≡ nth vs i
 look-at vs i = let e : i + 2 ≡ suc (suc i) = omega arith in rw e
+
+-- what a test of the number i + 2 says of mark i
+pub mark-here : (ms : List Bool) (i : ℕ) (b : Bool) → ((b ≡ true) ↔ Marked ms (i + 2)) → getD ms i false ≡ b
+mark-here ms i b t = by b (rw e at t)
+  where
+    e : i + 2 ≡ suc (suc i)
+    e = omega arith
+
+    by : (b : Bool) → ((b ≡ true) ↔ (getD ms i false ≡ true)) → getD ms i false ≡ b
+    by true t = t .0 refl
+    by false t = either (cases-bool (getD ms i false))
+      where
+        either : (getD ms i false ≡ true) ⊎ (getD ms i false ≡ false) → getD ms i false ≡ false
+        either (inl m) = absurd (false≢true (t .1 m))
+        either (inr m) = m
 
 -- the links of the vertices below a number stay
 abbrev pub StayBelow : {S : Type 0} → List Bool → List (Vertex S) → ℕ → Type 0

@@ -1,0 +1,107 @@
+// What the shelf does, on the run of records that it is handed: the first `used` of them are its vertices.
+ghost use Prim.Native.Nat.{ℕ, _+_, _<_, _≤_, min};
+ghost use lib.ListN.{length, take, set};
+ghost use mathlib.Core.Bool.{true};
+ghost use mathlib.Core.List.{List, map};
+ghost use mathlib.Core.Logic.{_↔_};
+ghost use mathlib.Core.Path.{_≡_};
+ghost use Rattle.std.specs.Options.{mapped};
+ghost use Rattle.ledger.specs.Diagrams.{look, parts};
+ghost use Rattle.ledger.specs.Gather.{keep};
+ghost use Rattle.ledger.specs.Laid.{First};
+ghost use Rattle.memory.specs.Marks.{noted-vertex, AllStay};
+ghost use Rattle.memory.specs.Shelves.{marks-in};
+ghost use Rattle.row_shelf.specs.Row.{Gathers};
+use ledger::Vertex;
+use memory::marks::is_marked;
+use memory::marks::new_vertex;
+use memory::marks::number_marks;
+use memory::marks::vertex_stays;
+use memory::reading::same_vertex;
+use memory::work::Place;
+use symbols::Symbol;
+
+// How many vertices so many records hold.
+pub fn capacity(records: usize) -> u32
+    ensures { λ r. ⌜ r ≡ min records 1000000 ⌝ }
+{
+    records.min(1_000_000) as u32
+}
+
+pub fn look<S: Symbol>(run: &[Vertex<S>], used: u32, n: u32) -> Option<(S, u32, u32)>
+    requires { ⌜ used ≤ length (now run) ⌝ }
+    ensures { λ r. ⌜ r ≡ mapped parts (look (take used (now (run .entry))) n) ⌝ }
+{
+    if n < 2 {
+        return None;
+    }
+    if n - 2 >= used {
+        return None;
+    }
+    let v = run[(n - 2) as usize];
+    Some((v.label, v.zero, v.one))
+}
+
+pub fn find<S: Symbol>(run: &[Vertex<S>], used: u32, wanted: Vertex<S>) -> Option<u32>
+    requires { ⌜ used ≤ length (now run) ⌝ ∗ ⌜ used ≤ 1000000 ⌝ }
+    ensures { λ r. ⌜ First (take used (now (run .entry))) wanted r ⌝ }
+{
+    for i in 0..used {
+        if same_vertex(run[i as usize], wanted) {
+            return Some(i + 2);
+        }
+    }
+    None
+}
+
+pub fn put<S: Symbol>(run: &mut [Vertex<S>], at: u32, v: Vertex<S>)
+    requires { ⌜ at < length (now run) ⌝ }
+    ensures { λ _. ⌜ now (run .exit) ≡ set (now (run .entry)) at v ⌝ }
+{
+    run[at as usize] = v;
+}
+
+// Whether each marked vertex has links to terminals and to marked vertices below it alone.
+pub fn all_stay<S: Symbol>(run: &[Vertex<S>], used: u32, marks: &[Place]) -> bool
+    requires { ⌜ used ≤ length (now run) ⌝ ∗ ⌜ used ≤ 1000000 ⌝ }
+    ensures { λ r. ⌜ (r ≡ true) ↔ AllStay (marks-in (now (marks .entry))) (take used (now (run .entry))) ⌝ }
+{
+    for i in 0..used {
+        if !vertex_stays(marks, i + 2, run[i as usize]) {
+            return false;
+        }
+    }
+    true
+}
+
+// Moves the marked vertices to the front, their links renumbered from the places, and says how many there are.
+pub fn keep<S: Symbol>(run: &mut [Vertex<S>], used: u32, marks: &[Place]) -> u32
+    requires { ⌜ used ≤ length (now run) ⌝ ∗ ⌜ used ≤ 1000000 ⌝ ∗ ⌜ length (now marks) ≡ used ⌝ }
+    ensures few { λ r. ⌜ r ≤ used ⌝ }
+    ensures vertices { λ r. ⌜ take r (now (run .exit)) ≡ map (noted-vertex (now (marks .entry))) (keep (marks-in (now (marks .entry))) (take used (now (run .entry)))) ⌝ }
+{
+    let mut to: u32 = 0;
+    for i in 0..used {
+        if is_marked(marks, i + 2) {
+            let v = run[i as usize];
+            run[to as usize] = new_vertex(marks, v);
+            to += 1;
+        }
+    }
+    to
+}
+
+// Keeps the marked vertices and says how many there are; nothing, and no vertex changed, where the marks do not fit.
+pub fn gather<S: Symbol>(run: &mut [Vertex<S>], used: u32, marks: &mut [Place]) -> Option<u32>
+    requires { ⌜ used ≤ length (now run) ⌝ ∗ ⌜ used ≤ 1000000 ⌝ }
+    ensures { λ r. ⌜ Gathers used (now (run .entry)) (now (marks .entry)) r (now (run .exit)) (now (marks .exit)) ⌝ }
+{
+    if marks.len() != used as usize {
+        return None;
+    }
+    if !all_stay(run, used, marks) {
+        return None;
+    }
+    number_marks(marks);
+    Some(keep(run, used, marks))
+}
