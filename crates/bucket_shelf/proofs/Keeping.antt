@@ -1,14 +1,12 @@
 -- Marked ones move to the front, one after another.
-use Prim.Native.Nat.{ℕ, suc, _+_, _<_, _≤_}
+use Prim.Native.Nat.{ℕ, _+_, _<_, _≤_}
 use lib.ListN.{length, getD, take, drop, set}
 use mathlib.Core.Bool.{Bool, true, false}
 use mathlib.Core.List.{List, [], _∷_, _++_, map}
-use mathlib.Core.Logic.{⊎-elim}
 use mathlib.Core.Path.{_≡_, refl, sym, ap, _∙_}
 use native.Mathlib.Omega.{arith}
 use Rattle.std.proofs.shelf.Lists.{append-nil, length-set, length-take-le, take-more, take-more-set, take-all, drop-drop, drop-set-lt, getD-drop, getD-default, map-append}
-use Rattle.std.proofs.shelf.Tests.{cases-bool}
-use Rattle.ledger.specs.Gather.{keep, Marked}
+use Rattle.ledger.specs.Gather.{keep}
 
 -- ys began as xs; the marked ones of the first i stand, changed by f, in the first `to` places, and from i on ys is as it
 -- was
@@ -78,11 +76,3 @@ module _ {A : Type 0} where
 
     pub keeps-all : (ys : List A) (to i : ℕ) → length ms ≤ i → Keeps f ms xs ys to i → take to ys ≡ map f (keep ms (take i xs))
     keeps-all ys to i h q = q .front ∙ ap (λ l. map f (keep l (take i xs))) (take-all i ms h)
-
--- a mark, by the number of its vertex and by its index
-pub mark-there : (ms : List Bool) (i : ℕ) → Marked ms (i + 2) → getD ms i false ≡ true
-mark-there ms i m = let z : i + 2 ≡ suc (suc i) = omega arith in rw z at m
-
-pub no-mark-there : (ms : List Bool) (i : ℕ) → (Marked ms (i + 2) → ⊥) → getD ms i false ≡ false
-no-mark-there ms i no-mark =
-    ⊎-elim (λ e. let z : i + 2 ≡ suc (suc i) = omega arith in absurd (no-mark (rw z e))) (λ e. e) (cases-bool (getD ms i false))

@@ -65,7 +65,13 @@ fn noted<S: Symbol>(found: Option<u32>, top: u32, entry: Entry<S>, wanted: Verte
 
 // The lowest number of a vertex, by a walk down its bucket's chain. Equal vertices may stand in it more than once, so
 // the walk goes to the end.
-pub fn find<S: Symbol>(records: &[Entry<S>], heads: &[u32], used: u32, at: usize, vertex: Vertex<S>) -> Option<u32>
+pub fn find<S: Symbol>(
+    records: &[Entry<S>],
+    heads: &[u32],
+    used: u32,
+    at: usize,
+    vertex: Vertex<S>,
+) -> Option<u32>
     requires { ⌜ used ≤ length (now records) ⌝ ∗ ⌜ used ≤ 1000000 ⌝ ∗ ⌜ at < length (now heads) ⌝ }
     ensures { λ r. ⌜ (at ≡ bucket (S·Symbol .scatter) (length (now (heads .entry))) vertex → Chained (S·Symbol .scatter) (now (records .entry)) (now (heads .entry)) used → First (take used (vertices-in (now (records .entry)))) vertex r) ⌝ }
 {
@@ -80,7 +86,13 @@ pub fn find<S: Symbol>(records: &[Entry<S>], heads: &[u32], used: u32, at: usize
 }
 
 // One vertex more, at index `i`, at the top of its bucket's chain.
-pub fn link<S: Symbol>(records: &mut [Entry<S>], heads: &mut [u32], i: u32, at: usize, vertex: Vertex<S>)
+pub fn link<S: Symbol>(
+    records: &mut [Entry<S>],
+    heads: &mut [u32],
+    i: u32,
+    at: usize,
+    vertex: Vertex<S>,
+)
     requires { ⌜ i < length (now records) ⌝ ∗ ⌜ i < 1000000 ⌝ ∗ ⌜ at < length (now heads) ⌝ }
     ensures vertices { λ _. ⌜ vertices-in (now (records .exit)) ≡ set (vertices-in (now (records .entry))) i vertex ⌝ }
     ensures ready { λ _. ⌜ (at ≡ bucket (S·Symbol .scatter) (length (now (heads .entry))) vertex → Chained (S·Symbol .scatter) (now (records .entry)) (now (heads .entry)) i → Chained (S·Symbol .scatter) (now (records .exit)) (now (heads .exit)) (i + 1)) ⌝ }

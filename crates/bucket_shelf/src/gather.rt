@@ -9,11 +9,16 @@ ghost use Rattle.ledger.specs.Gather.{keep};
 ghost use Rattle.memory.specs.Marks.{noted-vertex, AllStay};
 ghost use Rattle.memory.specs.Shelves.{marks-in};
 ghost use Rattle.bucket_shelf.specs.Chains.{vertices-in, Chained, Gathers};
-use crate::chain::{clear, entry_at, link};
 use crate::Entry;
+use crate::chain::clear;
+use crate::chain::entry_at;
+use crate::chain::link;
 use crate::place;
 use ledger::Vertex;
-use memory::marks::{is_marked, new_vertex, number_marks, vertex_stays};
+use memory::marks::is_marked;
+use memory::marks::new_vertex;
+use memory::marks::number_marks;
+use memory::marks::vertex_stays;
 use memory::work::Place;
 use symbols::Symbol;
 
@@ -32,7 +37,13 @@ pub fn all_stay<S: Symbol>(records: &[Entry<S>], used: u32, marks: &[Place]) -> 
 }
 
 // One kept vertex more, at index `to`, its links renumbered from the places.
-fn keep_vertex<S: Symbol>(records: &mut [Entry<S>], heads: &mut [u32], to: u32, marks: &[Place], vertex: Vertex<S>)
+fn keep_vertex<S: Symbol>(
+    records: &mut [Entry<S>],
+    heads: &mut [u32],
+    to: u32,
+    marks: &[Place],
+    vertex: Vertex<S>,
+)
     requires { ⌜ to < length (now records) ⌝ ∗ ⌜ to < 1000000 ⌝ ∗ ⌜ 0 < length (now heads) ⌝ }
     ensures vertices { λ _. ⌜ vertices-in (now (records .exit)) ≡ set (vertices-in (now (records .entry))) to (noted-vertex (now (marks .entry)) vertex) ⌝ }
     ensures ready { λ _. ⌜ (Chained (S·Symbol .scatter) (now (records .entry)) (now (heads .entry)) to → Chained (S·Symbol .scatter) (now (records .exit)) (now (heads .exit)) (to + 1)) ⌝ }
@@ -43,7 +54,12 @@ fn keep_vertex<S: Symbol>(records: &mut [Entry<S>], heads: &mut [u32], to: u32, 
 }
 
 // Moves the marked vertices to the front and says how many there are.
-pub fn keep<S: Symbol>(records: &mut [Entry<S>], heads: &mut [u32], used: u32, marks: &[Place]) -> u32
+pub fn keep<S: Symbol>(
+    records: &mut [Entry<S>],
+    heads: &mut [u32],
+    used: u32,
+    marks: &[Place],
+) -> u32
     requires { ⌜ used ≤ length (now records) ⌝ ∗ ⌜ used ≤ 1000000 ⌝ ∗ ⌜ length (now marks) ≡ used ⌝ ∗ ⌜ (0 < used → 0 < length (now heads)) ⌝ }
     ensures few { λ r. ⌜ r ≤ used ⌝ }
     ensures vertices { λ r. ⌜ take r (vertices-in (now (records .exit))) ≡ map (noted-vertex (now (marks .entry))) (keep (marks-in (now (marks .entry))) (take used (vertices-in (now (records .entry))))) ⌝ }
@@ -62,7 +78,12 @@ pub fn keep<S: Symbol>(records: &mut [Entry<S>], heads: &mut [u32], used: u32, m
 }
 
 // Keeps the marked vertices and says how many there are; nothing, and nothing changed, where the marks do not fit.
-pub fn gather<S: Symbol>(records: &mut [Entry<S>], heads: &mut [u32], used: u32, marks: &mut [Place]) -> Option<u32>
+pub fn gather<S: Symbol>(
+    records: &mut [Entry<S>],
+    heads: &mut [u32],
+    used: u32,
+    marks: &mut [Place],
+) -> Option<u32>
     requires { ⌜ used ≤ length (now records) ⌝ ∗ ⌜ used ≤ 1000000 ⌝ ∗ ⌜ (0 < used → 0 < length (now heads)) ⌝ }
     ensures { λ r. ⌜ Gathers (S·Symbol .scatter) used (now (marks .entry)) (now (records .entry)) (now (heads .entry)) r (now (marks .exit)) (now (records .exit)) (now (heads .exit)) ⌝ }
 {

@@ -6,8 +6,8 @@ ghost use denote.Ref.{now};
 ghost use Rattle.ledger.specs.Laid.{First};
 ghost use Rattle.bucket_shelf.specs.Place.{bucket};
 ghost use Rattle.bucket_shelf.specs.Chains.{vertices-in, Chained, Gathers};
-use crate::chain;
 use crate::Entry;
+use crate::chain;
 use crate::gather;
 use ledger::Vertex;
 use memory::work::Place;
@@ -23,14 +23,26 @@ pub struct Heads<'a> {
     pub at: &'a mut [u32],
 }
 
-pub fn find<S: Symbol>(records: &Records<S>, heads: &Heads, used: u32, at: usize, vertex: Vertex<S>) -> Option<u32>
+pub fn find<S: Symbol>(
+    records: &Records<S>,
+    heads: &Heads,
+    used: u32,
+    at: usize,
+    vertex: Vertex<S>,
+) -> Option<u32>
     requires { ⌜ used ≤ length (now (now records .at)) ⌝ ∗ ⌜ used ≤ 1000000 ⌝ ∗ ⌜ at < length (now (now heads .at)) ⌝ }
     ensures { λ r. ⌜ (at ≡ bucket (S·Symbol .scatter) (length (now (now (heads .entry) .at))) vertex → Chained (S·Symbol .scatter) (now (now (records .entry) .at)) (now (now (heads .entry) .at)) used → First (take used (vertices-in (now (now (records .entry) .at)))) vertex r) ⌝ }
 {
     chain::find(records.at, heads.at, used, at, vertex)
 }
 
-pub fn link<S: Symbol>(records: &mut Records<S>, heads: &mut Heads, i: u32, at: usize, vertex: Vertex<S>)
+pub fn link<S: Symbol>(
+    records: &mut Records<S>,
+    heads: &mut Heads,
+    i: u32,
+    at: usize,
+    vertex: Vertex<S>,
+)
     requires { ⌜ i < length (now (now records .at)) ⌝ ∗ ⌜ i < 1000000 ⌝ ∗ ⌜ at < length (now (now heads .at)) ⌝ }
     ensures long { λ _. ⌜ length (now (now (records .exit) .at)) ≡ length (now (now (records .entry) .at)) ⌝ }
     ensures wide { λ _. ⌜ length (now (now (heads .exit) .at)) ≡ length (now (now (heads .entry) .at)) ⌝ }
@@ -49,7 +61,12 @@ pub fn cut<S: Symbol>(records: &Records<S>, heads: &mut Heads, used: u32, n: u32
     chain::cut(records.at, heads.at, used, n);
 }
 
-pub fn gather<S: Symbol>(records: &mut Records<S>, heads: &mut Heads, used: u32, marks: &mut [Place]) -> Option<u32>
+pub fn gather<S: Symbol>(
+    records: &mut Records<S>,
+    heads: &mut Heads,
+    used: u32,
+    marks: &mut [Place],
+) -> Option<u32>
     requires { ⌜ used ≤ length (now (now records .at)) ⌝ ∗ ⌜ used ≤ 1000000 ⌝ ∗ ⌜ (0 < used → 0 < length (now (now heads .at))) ⌝ }
     ensures long { λ _. ⌜ length (now (now (records .exit) .at)) ≡ length (now (now (records .entry) .at)) ⌝ }
     ensures wide { λ _. ⌜ length (now (now (heads .exit) .at)) ≡ length (now (now (heads .entry) .at)) ⌝ }

@@ -7,7 +7,9 @@ use ledger::Vertex;
 use symbols::Symbol;
 
 const BY_LABEL: u64 = 0x9e37_79b9_7f4a_7c15;
+
 const BY_ZERO: u64 = 0xc2b2_ae3d_27d4_eb4f;
+
 const BY_ONE: u64 = 0xd6e8_feb8_6659_fd93;
 
 // One number of a scatter number and two links.
@@ -15,7 +17,9 @@ fn mix(scatter: u32, zero: u32, one: u32) -> u64
     ensures { λ r. ⌜ r ≡ mixed scatter zero one ⌝ }
 {
     let label = (scatter as u64).wrapping_mul(BY_LABEL);
-    let links = (zero as u64).wrapping_mul(BY_ZERO).wrapping_add((one as u64).wrapping_mul(BY_ONE));
+    let links = (zero as u64)
+        .wrapping_mul(BY_ZERO)
+        .wrapping_add((one as u64).wrapping_mul(BY_ONE));
     let sum = label.wrapping_add(links);
     let folded = (sum ^ (sum >> 32)).wrapping_mul(BY_LABEL);
     folded ^ (folded >> 32)

@@ -10,7 +10,7 @@ abbrev pub Inv-loop-top : given.InvT-loop-top
 Inv-loop-top g l =
     (l .top ≤ l .used) ×
     (l .at ≡ bucket (g .S·Symbol .scatter) (length (l .heads)) (l .vertex) → Chained (g .S·Symbol .scatter) (l .records) (l .heads) (l .used) →
-      Walk (bucket (g .S·Symbol .scatter) (length (l .heads))) (vertices-in (l .records)) (l .used) (bucket (g .S·Symbol .scatter) (length (l .heads)) (l .vertex)) (l .vertex) (l .top) (l .found))
+    Walk (bucket (g .S·Symbol .scatter) (length (l .heads))) (vertices-in (l .records)) (l .used) (bucket (g .S·Symbol .scatter) (length (l .heads)) (l .vertex)) (l .vertex) (l .top) (l .found))
 
 abbrev pub μ-loop-top : given.MeasureT-loop-top
 μ-loop-top g l = l .top

@@ -36,11 +36,12 @@ returns g c =
     let same : marks-in qs ≡ marks-in ps = c .number-marks .ensures .same in
     let fit : Gatherable (marks-in ps) vs =
     gatherable (marks-in ps) vs (length-map ps is-mark ∙ c .if-marks-used .left ∙ sym long) (c .all-stay .ensures .0 (c .if-not-all-stay .left)) in
-    let P : List Bool → Type 0 = λ ms. Gatherable ms vs in
-    (fit,
-     c .keep .ensures .few,
-     c .keep .ensures .vertices ∙
-     noted-gather qs vs (renumbered-now ps qs (c .number-marks .kept .marks) same (c .number-marks .ensures .numbers)) (subst P (sym same) fit) ∙
-     ap (λ ms. gather ms vs) same,
-     c .number-marks .ensures .numbers,
-     c .keep .ensures .ready)
+    let P : List Bool → Type 0 = λ ms. Gatherable ms vs in (
+      fit,
+      c .keep .ensures .few,
+      c .keep .ensures .vertices ∙
+          noted-gather qs vs (renumbered-now ps qs (c .number-marks .kept .marks) same (c .number-marks .ensures .numbers)) (subst P (sym same) fit) ∙
+          ap (λ ms. gather ms vs) same,
+      c .number-marks .ensures .numbers,
+      c .keep .ensures .ready,
+    )
