@@ -1,5 +1,5 @@
 -- Chains with a vertex more or less.
-use Prim.Native.Nat.{ℕ, _+_, _-_, _<_, _≤_, min}
+use Prim.Native.Nat.{ℕ, _+_, _-_, _<_, _≤_}
 use lib.ListN.{length, getD, set}
 use mathlib.Core.List.{List}
 use mathlib.Core.Logic.{⊎-elim}

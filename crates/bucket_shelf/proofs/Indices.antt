@@ -5,13 +5,11 @@ use mathlib.Core.List.{List, [], _∷_, map}
 use mathlib.Core.Path.{_≡_, refl, sym, ap, _∙_}
 use native.Mathlib.Omega.{arith}
 use Rattle.std.specs.Finite.{nth}
-use Rattle.std.specs.Options.{mapped}
-use Rattle.std.specs.declared.option.Option.{Option}
 use Rattle.std.specs.declared.option.Option.the-variants.{Some, None}
 use Rattle.std.proofs.shelf.Lists.{length-map, length-take, getD-map}
 use Rattle.std.proofs.shelf.Maps.{nth-read, nth-past}
 use Rattle.ledger.specs.declared.Vertex.{Vertex}
-use Rattle.ledger.specs.Diagrams.{look, parts}
+use Rattle.ledger.specs.Diagrams.{look}
 use Rattle.bucket_shelf.specs.declared.Entry.{Entry}
 use Rattle.bucket_shelf.specs.Chains.{vertex-of, vertices-in}
 

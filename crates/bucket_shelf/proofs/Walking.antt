@@ -1,5 +1,5 @@
 -- A walk down a chain finds the lowest equal vertex.
-use Prim.Native.Nat.{ℕ, zero, suc, _+_, _-_, _<_, _≤_, min}
+use Prim.Native.Nat.{ℕ, _+_, _-_, _<_, _≤_, min}
 use lib.ListN.{length, getD, take}
 use mathlib.Core.List.{List}
 use mathlib.Core.Logic.{⊎-elim}

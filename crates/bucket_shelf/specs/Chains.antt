@@ -2,7 +2,7 @@
 use Prim.Native.Nat.{ℕ, _-_, _<_, _≤_, min}
 use lib.Dec.{eqb}
 use lib.ListN.{length, getD, take}
-use mathlib.Core.Bool.{Bool, true, false, cond}
+use mathlib.Core.Bool.{true, false, cond}
 use mathlib.Core.List.{List, map}
 use mathlib.Core.Path.{_≡_}
 use native.Mathlib.Omega.{arith}

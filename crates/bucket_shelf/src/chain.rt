@@ -3,7 +3,6 @@ ghost use Prim.Native.Nat.{ℕ, _+_, _-_, _<_, _≤_, min};
 ghost use lib.Dec.{eqb};
 ghost use lib.ListN.{length, take, set, getD};
 ghost use mathlib.Core.Bool.{cond};
-ghost use mathlib.Core.List.{List};
 ghost use mathlib.Core.Logic.{_⊎_, _≢_};
 ghost use mathlib.Core.Path.{_≡_};
 ghost use Rattle.std.specs.Options.{mapped};
@@ -29,7 +28,6 @@ pub fn capacity(records: usize, heads: usize) -> u32
     }
 }
 
-// The record at an index.
 pub fn entry_at<S: Symbol>(records: &[Entry<S>], i: u32) -> Entry<S>
     requires { ⌜ i < length (now records) ⌝ }
     ensures { λ r. ⌜ r ≡ getD (now (records .entry)) i r ⌝ }
@@ -51,8 +49,13 @@ pub fn look<S: Symbol>(records: &[Entry<S>], used: u32, n: u32) -> Option<(S, u3
     Some((entry.vertex.label, entry.vertex.zero, entry.vertex.one))
 }
 
-// What is found, past the entry of number `top + 1`: that number, if its vertex is the wanted one.
-fn noted<S: Symbol>(found: Option<u32>, top: u32, entry: Entry<S>, wanted: Vertex<S>) -> Option<u32>
+// What is found once the entry at index `top - 1` is passed: its number, if its vertex is the wanted one.
+fn passed<S: Symbol>(
+    found: Option<u32>,
+    top: u32,
+    entry: Entry<S>,
+    wanted: Vertex<S>,
+) -> Option<u32>
     requires { ⌜ top ≤ 1000000 ⌝ }
     ensures { λ r. ⌜ ((entry .vertex ≡ wanted) × (r ≡ Some (top + 1))) ⊎ ((entry .vertex ≢ wanted) × (r ≡ found)) ⌝ }
 {
@@ -79,7 +82,7 @@ pub fn find<S: Symbol>(
     let mut top = heads[at].min(used);
     while top > 0 {
         let entry = entry_at(records, top - 1);
-        found = noted(found, top, entry, vertex);
+        found = passed(found, top, entry, vertex);
         top = entry.next.min(top - 1);
     }
     found
@@ -132,7 +135,7 @@ pub fn unlink<S: Symbol>(records: &[Entry<S>], heads: &mut [u32], used: u32, n: 
     }
 }
 
-// Leaves the first `n` vertices in the chains. None at all is the way to begin, from heads that hold anything.
+// Leaves the first `n` vertices in the chains. To leave none clears every head, whatever lay there: so a shelf begins.
 pub fn cut<S: Symbol>(records: &[Entry<S>], heads: &mut [u32], used: u32, n: u32)
     requires { ⌜ used ≤ length (now records) ⌝ ∗ ⌜ used ≤ 1000000 ⌝ ∗ ⌜ (0 < used → 0 < length (now heads)) ⌝ }
     ensures ready { λ _. ⌜ (Chained (S·Symbol .scatter) (now (records .entry)) (now (heads .entry)) used → Chained (S·Symbol .scatter) (now (records .entry)) (now (heads .exit)) (min used n)) ⌝ }

@@ -1,5 +1,5 @@
 // The two runs that a bucket shelf is lent, each in a struct of its own, so that both can be lent on in one call.
-ghost use Prim.Native.Nat.{ℕ, _+_, _<_, _≤_, min};
+ghost use Prim.Native.Nat.{_+_, _<_, _≤_, min};
 ghost use lib.ListN.{length, set, take};
 ghost use mathlib.Core.Path.{_≡_};
 ghost use denote.Ref.{now};

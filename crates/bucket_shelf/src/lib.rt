@@ -4,7 +4,7 @@
 // Promise: any records and any heads will do, whatever lies in them; from the first cut to 0 on, the chains fit the
 // vertices. Cost: a look is one step; a find or an append is a chain's length, a few steps while there are about as many
 // heads as vertices; a cut is what it cuts, but to 0 it is the heads; to gather is the vertices and the heads.
-ghost use Prim.Native.Nat.{ℕ, _+_, _<_, _≤_, min};
+ghost use Prim.Native.Nat.{_+_, _<_, min};
 ghost use denote.Ref.{now};
 ghost use lib.ListN.{length, take};
 ghost use mathlib.Core.Bool.{true, cond};
@@ -170,8 +170,7 @@ pub impl<'a, S: Symbol> Shelf<S> for BucketShelf<'a, S> as BucketShelfShelf {
     }
 
     fn append(&mut self, label: S, zero: u32, one: u32) -> Result<u32, Full> {
-        let used = self.in_use();
-        if used >= self.room() {
+        if self.in_use() >= self.room() {
             return Err(Full);
         }
         let vertex = Vertex { label, zero, one };

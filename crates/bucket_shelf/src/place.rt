@@ -1,6 +1,6 @@
 // The bucket of a vertex. Links of neighbours are close numbers and labels are few, so all three are multiplied by large
 // odd constants and the high half is folded down before they are reduced to a bucket: any number of heads will do.
-ghost use Prim.Native.Nat.{ℕ, _<_};
+ghost use Prim.Native.Nat.{_<_};
 ghost use mathlib.Core.Path.{_≡_};
 ghost use Rattle.bucket_shelf.specs.Place.{mixed, bucket};
 use ledger::Vertex;

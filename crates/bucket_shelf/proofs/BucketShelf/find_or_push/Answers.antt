@@ -5,7 +5,7 @@ use native.Mathlib.Omega.{arith}
 use lib.ListN.{take}
 use Rattle.std.specs.declared.option.Option.the-variants.{Some, None}
 use Rattle.ledger.specs.Laid.{First}
-use Rattle.bucket_shelf.specs.Chains.{vertices-in, room, Chained}
+use Rattle.bucket_shelf.specs.Chains.{vertices-in, room}
 use Rattle.bucket_shelf.specs.Shelves.{records-of, heads-of}
 use Rattle.bucket_shelf.proofs.BucketShelf.find_or_push.Needs as need
 

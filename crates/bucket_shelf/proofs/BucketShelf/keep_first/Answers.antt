@@ -1,4 +1,4 @@
-use Prim.Native.Nat.{_≤_, min}
+use Prim.Native.Nat.{min}
 use lib.ListN.{take}
 use mathlib.Core.Path.{_≡_, refl, ap, _∙_}
 use native.Mathlib.Omega.{arith}

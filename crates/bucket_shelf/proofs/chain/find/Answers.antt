@@ -1,7 +1,7 @@
 use Prim.Native.Nat.{_-_, min}
 use lib.ListN.{length}
 use mathlib.Core.Logic.{⊎-elim}
-use mathlib.Core.Path.{_≡_, sym, ap, _∙_}
+use mathlib.Core.Path.{_≡_, ap, _∙_}
 use native.Mathlib.Omega.{arith}
 use Rattle.std.specs.Finite.{nth}
 use Rattle.std.specs.declared.option.Option.the-variants.{Some}
@@ -37,7 +37,7 @@ loop-top-again g c =
           ⊎-elim
           (λ q. rw (q .1) (walk-yes in-bucket vs u v top next (omega arith) (omega arith) (seen ∙ ap Some (q .0)) below))
           (λ q. rw (q .1) (walk-no in-bucket vs u v (e .vertex) top next (c .loop-top .found) (omega arith) seen (q .0) below (c .loop-top .inv .1 p h)))
-          (c .noted-found .ensures),
+          (c .passed-found .ensures),
     )
 
 pub returns : need.returns

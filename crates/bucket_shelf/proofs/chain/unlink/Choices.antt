@@ -1,6 +1,4 @@
 use Prim.Native.Nat.{_≤_, _-_, min}
-use lib.ListN.{length}
-use mathlib.Core.Path.{_≡_}
 use Rattle.bucket_shelf.specs.Chains.{Chained}
 use Rattle.bucket_shelf.proofs.chain.unlink.Given as given
 

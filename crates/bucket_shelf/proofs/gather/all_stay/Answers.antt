@@ -2,7 +2,6 @@ use Prim.Native.Nat.{_+_}
 use lib.ListN.{length, take}
 use mathlib.Core.Path.{_≡_, refl}
 use native.Mathlib.Omega.{arith}
-use Rattle.std.specs.declared.option.Option.the-variants.{Some}
 use Rattle.std.proofs.shelf.Lists.{length-take}
 use Rattle.std.proofs.shelf.Tests.{both-ways, false≢true}
 use Rattle.memory.specs.Shelves.{marks-in}

@@ -1,4 +1,3 @@
-use Prim.Native.Nat.{_≤_}
 use lib.ListN.{length, take}
 use mathlib.Core.Bool.{Bool}
 use mathlib.Core.List.{List}

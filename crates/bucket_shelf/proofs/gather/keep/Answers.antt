@@ -1,4 +1,4 @@
-use Prim.Native.Nat.{ℕ, _+_, _<_}
+use Prim.Native.Nat.{_+_, _<_}
 use lib.ListN.{length, getD, take}
 use mathlib.Core.Bool.{false}
 use mathlib.Core.List.{List, map}

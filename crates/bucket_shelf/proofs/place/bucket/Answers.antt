@@ -1,4 +1,4 @@
-use Prim.Native.Nat.{_%_, _<_}
+use Prim.Native.Nat.{_%_}
 use mathlib.Core.Path.{ap, _∙_}
 use native.Mathlib.Nat.{mod-lt}
 use Rattle.bucket_shelf.specs.Place.{mixed, bucket}
