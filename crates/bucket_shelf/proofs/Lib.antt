@@ -1,0 +1,5 @@
+mod Indices
+mod Chaining
+mod Walking
+mod Rooms
+mod Keeping
