@@ -15,13 +15,20 @@ use symbols::Symbol;
 
 // The states of a place.
 const UNMARKED: u32 = 0;
+
 const MARKED: u32 = 1;
 
 fn mark(work: &mut [Place], n: u32)
     requires { ⌜ n < length (now work) ⌝ }
     ensures { λ _. ⌜ now (work .exit) ≡ set (now (work .entry)) n marked-place ⌝ }
 {
-    work[n as usize] = Place { state: MARKED, list: 0, other: 0, number: 0, count: 0 };
+    work[n as usize] = Place {
+        state: MARKED,
+        list: 0,
+        other: 0,
+        number: 0,
+        count: 0,
+    };
 }
 
 fn is_marked(work: &[Place], n: u32) -> bool
@@ -37,7 +44,13 @@ fn unmark_up_to(list: u32, work: &mut [Place])
     ensures { λ _. ⌜ Unmarked (list + 1) (now (work .exit)) ⌝ }
 {
     for n in 0..=list {
-        work[n as usize] = Place { state: UNMARKED, list: 0, other: 0, number: 0, count: 0 };
+        work[n as usize] = Place {
+            state: UNMARKED,
+            list: 0,
+            other: 0,
+            number: 0,
+            count: 0,
+        };
     }
 }
 
