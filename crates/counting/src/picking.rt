@@ -99,7 +99,7 @@ fn advance<S: Symbol, B: Shelf<S>>(
     work: &[Place],
 ) -> Option<Course>
     requires room { ⌜ course .rest .list < length (now work) ⌝ }
-    requires length { ⌜ course .length ≤ 64 ⌝ }
+    requires within { ⌜ course .length ≤ 64 ⌝ }
     requires output { ⌜ 64 ≤ length (now out) ⌝ }
     ensures below { λ r. ⌜ Falls course r ⌝ }
     ensures kept { λ r. ⌜ Keeps (now (out .entry)) r (now (out .exit)) ⌝ }

@@ -28,22 +28,16 @@ const TOO_MANY: u32 = 1;
 fn place_of(tally: Tally) -> Place
     ensures { λ r. ⌜ held r ≡ tally ⌝ }
 {
-    let number = if tally.empty { 1 } else { 0 };
-    match tally.codes {
-        Some(count) => Place {
-            state: COUNTED,
-            list: 0,
-            other: 0,
-            number,
-            count,
-        },
-        None => Place {
-            state: TOO_MANY,
-            list: 0,
-            other: 0,
-            number,
-            count: 0,
-        },
+    let (state, count) = match tally.codes {
+        Some(count) => (COUNTED, count),
+        None => (TOO_MANY, 0),
+    };
+    Place {
+        state,
+        list: 0,
+        other: 0,
+        number: u32::from(tally.empty),
+        count,
     }
 }
 
