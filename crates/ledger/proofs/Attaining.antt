@@ -1,21 +1,23 @@
 -- What is written of a list is a diagram of its codes, and no vertex of it is spare.
-use mathlib.Core.Path.{_≡_, refl, sym, ap, subst, subst⁻¹, _∙_}
+use mathlib.Core.Path.{_≡_, sym, ap, subst, _∙_}
 use mathlib.Core.Bool.{Bool}
 use mathlib.Core.List.{List, []}
-use mathlib.Core.Logic.{_↔_}
-use Prim.Native.Nat.{ℕ, suc, _+_, _≤_, _<_}
+use Prim.Native.Nat.{ℕ, _<_}
 use native.Mathlib.Omega.{arith}
 use lib.ListN.{length}
 use Rattle.symbols.specs.Order.{Order}
-use Rattle.ledger.specs.Lists.{Codes, Member, Proper}
+use Rattle.ledger.specs.Lists.{Codes, Proper}
 use Rattle.ledger.specs.declared.Vertex.{Vertex}
-use Rattle.ledger.specs.Diagrams.{look, Good, Sound, SameCodes, IsDiagram, LeadsTo, zero-step, one-step, then, Reached, Counts}
-use Rattle.ledger.specs.Ledger.{number, lay, lists, codes, vertices-of, fresh}
+use Rattle.ledger.specs.Diagrams.{Good, Sound, IsDiagram, LeadsTo, zero-step, one-step, then, Reached, Counts}
+use Rattle.ledger.specs.Ledger.{lay, codes, fresh}
+use Rattle.ledger.specs.Laid.{Laid}
+use Rattle.ledger.specs.Statements.{LeastDiagram}
 use Rattle.ledger.proofs.Canon.{vertex-good}
-use Rattle.ledger.proofs.Rows.{Ledger, empty-row, lay-ledger, lay-knows, number-good}
-use Rattle.ledger.proofs.Drawn.{Pictured, pictured, lists-vertices-of, codes-proper, read-back, has-member, member-has}
+use Rattle.ledger.proofs.Drawn.{codes-proper}
 use Rattle.ledger.proofs.Parts.{reached-many}
-use Rattle.ledger.proofs.Gathering.{ledger-sound}
+use Rattle.ledger.proofs.Gathering.{sound-empty}
+use Rattle.ledger.proofs.Downs.{is-laid}
+use Rattle.ledger.proofs.Draws.{lists-long, same-lists}
 
 module _ {S : Type 0} (before : S → S → Bool) (order : Order before) where
   leads-down : (vs : List (Vertex S)) → Sound before vs → {n k : ℕ} → LeadsTo vs n k → k < n
@@ -32,40 +34,20 @@ module _ {S : Type 0} (before : S → S → Bool) (order : Order before) where
         later = s .formed .later;
       }
 
+  -- what is written of a list is that list, laid down on nothing
+  pub written : (t : Codes S) → Proper before t → Laid before [] t (fresh before t .drawn) (fresh before t .root)
+  written t p = is-laid before order [] t (sound-empty before order) p
+
+  pub written-long : (t : Codes S) → Proper before t → length (lay before [] t) ≡ length (fresh before t .drawn)
+  written-long t p = ap length (sym (written t p .row)) ∙ lists-long before order (fresh before t .drawn)
+
   pub attained : (vs : List (Vertex S)) → Sound before vs → (n : ℕ) → Good vs n →
-      IsDiagram before (fresh before (codes vs n) .drawn) × Good (fresh before (codes vs n) .drawn) (fresh before (codes vs n) .root) ×
-      SameCodes vs n (fresh before (codes vs n) .drawn) (fresh before (codes vs n) .root) ×
-      Counts (Reached vs n) (length (fresh before (codes vs n) .drawn))
-  attained vs s n g = (
-    sound-diagram drawn whole,
-    good,
-    λ c. (
-      λ h. member-has before order drawn whole root good c (subst⁻¹ (λ t. Member t c) back (has-member before order vs s h)),
-      λ h. member-has before order vs s n g c (subst (λ t. Member t c) back (has-member before order drawn whole h)),
-    ),
-    subst (Counts (Reached vs n)) long (reached-many before order vs s n g),
-  )
-    where
-      proper : Proper before (codes vs n)
-      proper = codes-proper before order vs s n g
-
-      L : Ledger before (lay before [] (codes vs n))
-      L = lay-ledger before order [] (codes vs n) (empty-row refl) proper
-
-      drawn : List (Vertex S)
-      drawn = vertices-of before (lay before [] (codes vs n))
-
-      root : ℕ
-      root = number before (lay before [] (codes vs n)) (codes vs n)
-
-      whole : Sound before (vertices-of before (lay before [] (codes vs n)))
-      whole = ledger-sound before order L
-
-      long : length (lay before [] (codes vs n)) ≡ length (vertices-of before (lay before [] (codes vs n)))
-      long = ap length (sym (lists-vertices-of before order L)) ∙ pictured before order (vertices-of before (lay before [] (codes vs n))) whole .long
-
-      good : Good (vertices-of before (lay before [] (codes vs n))) (number before (lay before [] (codes vs n)) (codes vs n))
-      good = omega (arith, number-good before order (lay before [] (codes vs n)) (codes vs n) (lay-knows before order [] (codes vs n)), long)
-
-      back : codes (vertices-of before (lay before [] (codes vs n))) (number before (lay before [] (codes vs n)) (codes vs n)) ≡ codes vs n
-      back = read-back before order (codes vs n) proper
+      LeastDiagram before vs n (fresh before (codes vs n) .drawn) (fresh before (codes vs n) .root)
+  attained vs s n g =
+      let l = written (codes vs n) (codes-proper before order vs s n g) in
+      record {
+        diagram = sound-diagram (fresh before (codes vs n) .drawn) (l .sound);
+        good = l .good;
+        same = same-lists before order vs (fresh before (codes vs n) .drawn) (s .formed) (l .sound .formed) n (fresh before (codes vs n) .root) g (l .good) (sym (l .is));
+        reached = subst (Counts (Reached vs n)) (written-long (codes vs n) (codes-proper before order vs s n g)) (reached-many before order vs s n g);
+      }

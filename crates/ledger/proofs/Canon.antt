@@ -1,18 +1,17 @@
 -- In a sound row of vertices two good numbers with the same codes are one.
-use mathlib.Core.Path.{_≡_, refl, sym, ap, subst, _∙_}
-use mathlib.Core.Bool.{Bool, true, false}
+use mathlib.Core.Path.{_≡_, refl, sym, ap, _∙_}
+use mathlib.Core.Bool.{Bool}
 use mathlib.Core.List.{List, [], _∷_}
-use mathlib.Core.Logic.{_↔_, _⊎_, inl, inr, _≢_}
-use Prim.Native.Nat.{ℕ, zero, suc, _+_, _≤_, _<_}
+use mathlib.Core.Logic.{_≢_}
+use Prim.Native.Nat.{ℕ, zero, suc, _<_}
 use native.Mathlib.Omega.{arith}
 use lib.ListN.{length}
 use Rattle.std.specs.Finite.{nth}
-use Rattle.std.specs.declared.option.Option.{Option}
-use Rattle.std.specs.declared.option.Option.the-variants.{Some, None}
+use Rattle.std.specs.declared.option.Option.the-variants.{Some}
 use Rattle.symbols.specs.Order.{Order}
 use Rattle.ledger.specs.declared.Vertex.{Vertex}
-use Rattle.ledger.specs.Diagrams.{look, Has, ends, passes, takes, SameCodes, Later, Good, Sound}
-use Rattle.ledger.proofs.Reading.{some-same, none-some, nil-cons, has-0, has-1, has-on, has-at, labels-agree, inners-agree, outers-agree}
+use Rattle.ledger.specs.Diagrams.{look, Has, ends, takes, SameCodes, Good, Sound}
+use Rattle.ledger.proofs.Reading.{none-some, nil-cons, has-0, has-1, has-on, labels-agree, inners-agree, outers-agree}
 
 -- what a good number is
 pub data Kind {S : Type 0} (vs : List (Vertex S)) (n : ℕ) : Type 0 where

@@ -1,18 +1,18 @@
 -- Laid down step by step is laid down, and leaves the vertices sound.
-use mathlib.Core.Path.{_≡_, refl, sym, ap, ap₂, subst, subst⁻¹, _∙_}
-use mathlib.Core.Bool.{Bool, true, false}
-use mathlib.Core.List.{List, [], _∷_, _++_}
-use Prim.Native.Nat.{ℕ, zero, suc, _+_, _≤_, _<_}
+use mathlib.Core.Path.{_≡_, sym, ap, ap₂, _∙_}
+use mathlib.Core.Bool.{Bool}
+use mathlib.Core.List.{List}
+use Prim.Native.Nat.{ℕ}
 use native.Mathlib.Omega.{arith}
-use lib.ListN.{length, getD}
+use lib.ListN.{length}
 use Rattle.symbols.specs.Order.{Order}
-use Rattle.ledger.specs.Lists.{Codes, none, blank, begun, Proper}
+use Rattle.ledger.specs.Lists.{Codes, Proper}
 use Rattle.ledger.specs.declared.Vertex.{Vertex}
-use Rattle.ledger.specs.Diagrams.{Good, Sound}
-use Rattle.ledger.specs.Ledger.{number, lay, list-in, lists, codes, vertices-of, down, down-number}
+use Rattle.ledger.specs.Diagrams.{Sound}
+use Rattle.ledger.specs.Ledger.{number, lay, list-in, lists, vertices-of, down, down-number}
 use Rattle.ledger.specs.Laid.{Laid}
-use Rattle.ledger.proofs.Rows.{Ledger, lay-ledger, lay-knows, number-good, list-number, number-list}
-use Rattle.ledger.proofs.Drawn.{Pictured, pictured, lists-vertices-of}
+use Rattle.ledger.proofs.Rows.{lay-ledger, lay-knows, number-good, list-number, number-list}
+use Rattle.ledger.proofs.Drawn.{pictured, lists-vertices-of}
 use Rattle.ledger.proofs.Gathering.{ledger-sound}
 
 module _ {S : Type 0} (before : S → S → Bool) (order : Order before) where

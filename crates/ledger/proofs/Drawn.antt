@@ -1,27 +1,24 @@
 -- Rows of vertices and rows of lists say the same: vertices drawn from a ledger's lists draw those lists, and a sound row of vertices draws a ledger.
-use mathlib.Core.Path.{_≡_, refl, sym, ap, ap₂, subst, subst⁻¹, _∙_}
-use mathlib.Core.Bool.{Bool, true, false, cond}
-use mathlib.Core.List.{List, [], _∷_, _++_, append-nil, append-assoc}
-use mathlib.Core.Logic.{_↔_, _⊎_, inl, inr, _≢_}
-use Prim.Native.Nat.{ℕ, zero, suc, _+_, _≤_, _<_}
+use mathlib.Core.Path.{_≡_, refl, sym, ap, ap₂, _∙_}
+use mathlib.Core.Bool.{Bool, true, false}
+use mathlib.Core.List.{List, [], _∷_, _++_}
+use mathlib.Core.Logic.{_↔_, _⊎_, inl, inr}
+use Prim.Native.Nat.{ℕ, zero, suc, _+_, _≤_}
 use native.Mathlib.Omega.{arith}
-use lib.ListN.{length, getD, length-append}
-use Rattle.std.specs.declared.option.Option.{Option}
-use Rattle.std.specs.declared.option.Option.the-variants.{Some, None}
+use lib.ListN.{length}
+use Rattle.std.specs.declared.option.Option.the-variants.{Some}
 use Rattle.symbols.specs.Order.{Order}
-use Rattle.ledger.specs.Lists.{Codes, none, blank, begun, Member, Comes, Some-code, Proper, same, SameMembers}
+use Rattle.ledger.specs.Lists.{Codes, none, blank, begun, Member, Comes, Some-code, Proper}
 use Rattle.ledger.specs.declared.Vertex.{Vertex}
-use Rattle.ledger.specs.Diagrams.{look, Has, ends, passes, takes, SameCodes, Good, Sound, Formed}
-use Rattle.ledger.specs.Ledger.{listed, position, number, lay, list-in, draw, lists, codes, vertices-in, vertices-of, Drawing, fresh}
-use Rattle.ledger.proofs.Reading.{true-false, none-some}
-use Rattle.ledger.proofs.Canon.{Kind, is-0, is-1, is-vertex, kind, vertex-good}
-use Rattle.ledger.proofs.Sets.{begun-same, proper-same}
-use Rattle.ledger.proofs.Ends.{getD-front, getD-last, nth-front, nth-last, nth-cases, length-snoc, by-ends}
-use Rattle.ledger.proofs.Rows.{both-ways, Known, Ledger, empty-row, one-more, known-held, known-front, number-front, number-good, list-number, list-front, known-list, known-proper, number-list, position-below, getD-position, lay-ledger, lay-knows}
-
-pub draw-append : {S : Type 0} (row : List (Codes S)) (vs ws : List (Vertex S)) → draw row (vs ++ ws) ≡ draw (draw row vs) ws
-draw-append row [] ws = refl
-draw-append row (v ∷ vs) ws = draw-append _ vs ws
+use Rattle.ledger.specs.Diagrams.{look, Has, SameCodes, Good, Sound, Formed}
+use Rattle.ledger.specs.Ledger.{listed, position, number, lay, list-in, lists, codes, vertices-in, vertices-of, Drawing, fresh}
+use Rattle.ledger.proofs.Reading.{none-some}
+use Rattle.ledger.proofs.Canon.{Kind, is-0, is-1, is-vertex, kind}
+use Rattle.ledger.proofs.Sets.{proper-same}
+use Rattle.ledger.proofs.Ends.{nth-front, nth-last, nth-cases, by-ends}
+pub use Rattle.ledger.proofs.Draws.{draw-append}
+use Rattle.ledger.proofs.Draws.{lists-long, codes-formed, formed-member, member-formed, same-lists}
+use Rattle.ledger.proofs.Rows.{both-ways, Known, Ledger, empty-row, one-more, known-front, number-front, list-number, known-list, known-proper, number-list, position-below, getD-position, lay-ledger, lay-knows}
 
 -- each list of ts comes with its outer and inner list in the row
 abbrev pub Closed : {S : Type 0} → (S → S → Bool) → List (Codes S) → List (Codes S) → Type 0
@@ -140,28 +137,6 @@ module _ {S : Type 0} (before : S → S → Bool) (order : Order before) where
     pub lists-more : lists (vs ++ v ∷ []) ≡ lists vs ++ new ∷ []
     lists-more = draw-append [] vs (v ∷ [])
 
-    front-codes : (n : ℕ) → n ≤ length vs + 1 → codes (vs ++ v ∷ []) n ≡ codes vs n
-    front-codes n h = ap (λ r. list-in r n) lists-more ∙ list-front before order (lists vs) (new ∷ []) n (omega (arith, P .long))
-
-    last-codes : codes (vs ++ v ∷ []) (suc (suc (length vs))) ≡ new
-    last-codes = ap (λ r. list-in r (suc (suc (length vs)))) lists-more ∙ subst (λ k. getD (lists vs ++ new ∷ []) k none ≡ new) (P .long) (getD-last (lists vs) new none)
-
-    unfolds-more : (n : ℕ) (w : Vertex S) → look (vs ++ v ∷ []) n ≡ Some w → codes (vs ++ v ∷ []) n ≡ begun (w .label) (codes (vs ++ v ∷ []) (w .zero)) (codes (vs ++ v ∷ []) (w .one))
-    unfolds-more n w e = by (look-cases vs v n w e)
-      where
-        by : (look vs n ≡ Some w) ⊎ ((n ≡ suc (suc (length vs))) × (v ≡ w)) → codes (vs ++ v ∷ []) n ≡ begun (w .label) (codes (vs ++ v ∷ []) (w .zero)) (codes (vs ++ v ∷ []) (w .one))
-        by (inl p) =
-            let g : Good vs n = vertex-good vs n w p in
-            let hz = sound .formed .zero-below n w e in
-            let ho = sound .formed .one-below n w e in
-            front-codes n g ∙ P .unfolds n w p ∙ begun-same refl (sym (front-codes (w .zero) (omega arith))) (sym (front-codes (w .one) (omega arith)))
-        by (inr p) =
-            let hz = sound .formed .zero-below n w e in
-            let ho = sound .formed .one-below n w e in
-            ap (codes (vs ++ v ∷ [])) (p .0) ∙ last-codes ∙
-            ap (λ (x : Vertex S). begun (x .label) (codes vs (x .zero)) (codes vs (x .one))) (p .1) ∙
-            begun-same refl (sym (front-codes (w .zero) (omega (arith, p .0)))) (sym (front-codes (w .one) (omega (arith, p .0))))
-
     pub comes : Comes before (v .label) (codes vs (v .zero))
     comes = by (kind vs (v .zero) (omega (arith, zero-in, P .long)))
       where
@@ -210,7 +185,7 @@ module _ {S : Type 0} (before : S → S → Bool) (order : Order before) where
     pictured-more : Pictured (vs ++ v ∷ [])
     pictured-more =
         record {
-          unfolds = unfolds-more;
+          unfolds = codes-formed before order (vs ++ v ∷ []) (sound .formed);
           ledger =
               one-more (lists vs) (v .label) (codes vs (v .zero)) (codes vs (v .one)) lists-more (P .ledger) kz ko
               (comes, some-code, known-proper before order (P .ledger) _ kz, known-proper before order (P .ledger) _ ko)
@@ -223,7 +198,7 @@ module _ {S : Type 0} (before : S → S → Bool) (order : Order before) where
                 zero = number-codes (v .zero) (omega (arith, zero-in, P .long)) i;
                 one = number-codes (v .one) (omega (arith, one-in, P .long)) i;
               });
-          long = ap length lists-more ∙ length-snoc (lists vs) new ∙ ap suc (P .long) ∙ sym (length-snoc vs v);
+          long = lists-long before order (vs ++ v ∷ []);
         }
       where
         kz : Known before (lists vs) (codes vs (v .zero))
@@ -251,25 +226,10 @@ module _ {S : Type 0} (before : S → S → Bool) (order : Order before) where
 
   -- the codes of a number are those of its list
   pub has-member : (vs : List (Vertex S)) → Sound before vs → {n : ℕ} {c : List S} → Has vs n c → Member (codes vs n) c
-  has-member vs s (ends e f) = rw e f
-  has-member vs s {n} {c} (passes v p h) = rw (pictured vs s .unfolds n v p) (inl (has-member vs s h))
-  has-member vs s {n} {c} (takes v rest p e h) = rw (pictured vs s .unfolds n v p) (inr (rest, e, has-member vs s h))
-
-  member-upto : (vs : List (Vertex S)) → Sound before vs → (b n : ℕ) → n < b → Good vs n → (c : List S) → Member (codes vs n) c → Has vs n c
-  member-upto vs s zero n h g c m = absurd (omega arith)
-  member-upto vs s (suc b) n h g c m = by (kind vs n g) (member-upto vs s b)
-    where
-      by : Kind vs n → ((k : ℕ) → k < b → Good vs k → (c : List S) → Member (codes vs k) c → Has vs k c) → Has vs n c
-      by (is-0 e) below = absurd (rw e at m)
-      by (is-1 e) below = ends e (rw e at m)
-      by (is-vertex v p) below = split (rw (pictured vs s .unfolds n v p) at m)
-        where
-          split : Member (begun (v .label) (codes vs (v .zero)) (codes vs (v .one))) c → Has vs n c
-          split (inl k) = let z = s .formed .zero-below n v p in passes v p (below (v .zero) (omega arith) (omega arith) c k)
-          split (inr k) = let o = s .formed .one-below n v p in takes v (k .0) p (k .1) (below (v .one) (omega arith) (omega arith) (k .0) (k .2))
+  has-member vs s h = formed-member before order vs (s .formed) h
 
   pub member-has : (vs : List (Vertex S)) → Sound before vs → (n : ℕ) → Good vs n → (c : List S) → Member (codes vs n) c → Has vs n c
-  member-has vs s n g c m = member-upto vs s (suc n) n (omega arith) g c m
+  member-has vs s n g c m = member-formed before order vs (s .formed) n g c m
 
   pub codes-proper : (vs : List (Vertex S)) → Sound before vs → (n : ℕ) → Good vs n → Proper before (codes vs n)
   codes-proper vs s n g = let P = pictured vs s in known-proper before order (P .ledger) _ (known-list before order (lists vs) n (omega (arith, P .long)))
@@ -288,11 +248,9 @@ module _ {S : Type 0} (before : S → S → Bool) (order : Order before) where
   written-alike vs ws sv sw m n gm gn = (there, back)
     where
       there : fresh before (codes vs m) ≡ fresh before (codes ws n) → SameCodes vs m ws n
-      there e c =
-          let one : codes vs m ≡ codes ws n = fresh-same (codes vs m) (codes ws n) (codes-proper vs sv m gm) (codes-proper ws sw n gn) e in (
-            λ h. member-has ws sw n gn c (subst (λ t. Member t c) one (has-member vs sv h)),
-            λ h. member-has vs sv m gm c (subst (λ t. Member t c) (sym one) (has-member ws sw h)),
-          )
+      there e =
+          same-lists before order vs ws (sv .formed) (sw .formed) m n gm gn
+          (fresh-same (codes vs m) (codes ws n) (codes-proper vs sv m gm) (codes-proper ws sw n gn) e)
 
       back : SameCodes vs m ws n → fresh before (codes vs m) ≡ fresh before (codes ws n)
       back alike =

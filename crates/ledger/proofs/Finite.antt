@@ -1,12 +1,11 @@
 -- Every finite set of codes is a list.
-use mathlib.Core.Path.{_≡_, refl, sym, ap, ap₂, subst, subst⁻¹, _∙_}
+use mathlib.Core.Path.{_≡_, refl, sym, ap, subst⁻¹, _∙_}
 use mathlib.Core.Bool.{Bool, true, false}
-use mathlib.Core.List.{List, [], _∷_, _++_, List·Memᴰ, List·Memᴰ·head, List·Memᴰ·tail}
+use mathlib.Core.List.{List, [], _∷_, List·Memᴰ, List·Memᴰ·head, List·Memᴰ·tail}
 use mathlib.Core.Logic.{_↔_, _⊎_, inl, inr}
 use Rattle.symbols.specs.Order.{Order}
-use Rattle.ledger.specs.Lists.{Codes, none, blank, begun, Member, Some-code, Proper}
+use Rattle.ledger.specs.Lists.{Codes, none, Member, Some-code, Proper}
 use Rattle.ledger.specs.Operations.{has, join, single}
-use Rattle.ledger.proofs.Reading.{true-false}
 use Rattle.ledger.proofs.Rows.{both-ways}
 use Rattle.ledger.proofs.Joins.{join-right}
 use Rattle.ledger.proofs.Orders.{has-in, in-has}

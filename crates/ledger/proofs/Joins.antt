@@ -1,14 +1,13 @@
 -- What is in a join.
-use mathlib.Core.Path.{_≡_, refl, sym, ap, ap₂, subst, _∙_}
-use mathlib.Core.Bool.{Bool, true, false, cond, not, _&&_}
+use mathlib.Core.Path.{_≡_, refl, sym, subst, _∙_}
+use mathlib.Core.Bool.{Bool, true, false, cond}
 use mathlib.Core.List.{List, [], _∷_}
-use mathlib.Core.Logic.{_↔_, _⊎_, inl, inr}
+use mathlib.Core.Logic.{_⊎_, inl, inr}
 use Rattle.symbols.specs.Order.{Order, same-symbol}
-use Rattle.ledger.specs.Lists.{Codes, none, blank, begun, Member, Comes, Some-code, Proper}
+use Rattle.ledger.specs.Lists.{Codes, none, blank, begun, Comes, Proper}
 use Rattle.ledger.specs.Operations.{has, make, join-blank, join-over, join}
-use Rattle.ledger.proofs.Reading.{true-false, not-both}
 use Rattle.ledger.proofs.Rows.{both-ways}
-use Rattle.ledger.proofs.Sets.{symbol-same, symbol-self}
+use Rattle.ledger.proofs.Sets.{symbol-same}
 
 module _ {S : Type 0} (before : S → S → Bool) (order : Order before) where
   comes-earlier : (a b : S) (t : Codes S) → before a b ≡ true → Comes before b t → Comes before a t

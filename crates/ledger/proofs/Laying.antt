@@ -1,44 +1,26 @@
 -- Laying down, step by step, as a store does it: outer list, inner list, then the vertex itself is found or appended.
 use mathlib.Core.Path.{_≡_, refl, sym, ap, ap₂, subst, subst⁻¹, _∙_}
-use mathlib.Core.Bool.{Bool, true, false, cond}
+use mathlib.Core.Bool.{Bool, true, false}
 use mathlib.Core.List.{List, [], _∷_, _++_}
-use mathlib.Core.Logic.{_↔_, _⊎_, inl, inr, _≢_}
+use mathlib.Core.Logic.{_⊎_, inl, inr, _≢_}
 use Prim.Native.Nat.{ℕ, zero, suc, _+_, _≤_, _<_}
 use native.Mathlib.Omega.{arith}
 use lib.ListN.{length, getD, length-append}
-use Rattle.std.specs.declared.option.Option.{Option}
-use Rattle.std.specs.declared.option.Option.the-variants.{Some, None}
+use Rattle.std.specs.declared.option.Option.the-variants.{Some}
 use Rattle.symbols.specs.Order.{Order}
 use Rattle.ledger.specs.Lists.{Codes, none, blank, begun, Comes, Some-code, Proper}
 use Rattle.ledger.specs.declared.Vertex.{Vertex}
 use Rattle.ledger.specs.Diagrams.{look, Good, Sound}
-use Rattle.ledger.specs.Ledger.{listed, position, number, lay, list-in, lists, codes, vertices-of}
+use Rattle.ledger.specs.Ledger.{listed, position, number, lay, list-in, lists, codes}
 use Rattle.ledger.specs.Laid.{Laid}
-use Rattle.ledger.proofs.Reading.{true-false, none-some, some-same}
+use Rattle.ledger.proofs.Reading.{true-false}
 use Rattle.ledger.proofs.Canon.{Kind, is-0, is-1, is-vertex, kind, vertex-good}
-use Rattle.ledger.proofs.Ends.{nth-last, length-snoc, getD-last}
-use Rattle.ledger.proofs.Rows.{both-ways, Known, Ledger, listed-cases, known-list, known-laid, number-list, list-front, lay-held, lay-new, lay-known, lay-knows, lay-only, lay-adds, size, listed-getD, position-below, getD-position}
-use Rattle.ledger.proofs.Drawn.{Pictured, pictured, look-front, look-cases, draw-append, codes-proper}
+use Rattle.ledger.proofs.Ends.{length-snoc, getD-last}
+use Rattle.ledger.proofs.Rows.{both-ways, Known, Ledger, known-list, number-list, list-front, lay-held, lay-new, lay-known, lay-adds, position-below, getD-position, still-new}
+use Rattle.ledger.proofs.Drawn.{Pictured, pictured, look-cases, draw-append}
 use Rattle.ledger.proofs.Parts.{held-both}
 
 module _ {S : Type 0} (before : S → S → Bool) (order : Order before) where
-  -- what is laid down last is new unless it was there before
-  still-new : (row : List (Codes S)) (a : S) (z o : Codes S) → listed before row (begun a z o) ≡ false → listed before (lay before (lay before row z) o) (begun a z o) ≡ false
-  still-new row a z o e = away (both-ways (listed before (lay before (lay before row z) o) (begun a z o)))
-    where
-      from-row : (listed before row (begun a z o) ≡ true) ⊎ (size (begun a z o) ≤ size z) → ⊥
-      from-row (inl k) = true-false k e
-      from-row (inr k) = omega arith
-
-      from-outer : (listed before (lay before row z) (begun a z o) ≡ true) ⊎ (size (begun a z o) ≤ size o) → ⊥
-      from-outer (inl k) = from-row (lay-only before order row z (begun a z o) k)
-      from-outer (inr k) = omega arith
-
-      away : (listed before (lay before (lay before row z) o) (begun a z o) ≡ true) ⊎ (listed before (lay before (lay before row z) o) (begun a z o) ≡ false) →
-          listed before (lay before (lay before row z) o) (begun a z o) ≡ false
-      away (inl k) = absurd (from-outer (lay-only before order (lay before row z) o (begun a z o) k))
-      away (inr k) = k
-
   -- in a ledger, laying down may always begin with the outer and the inner list
   pub lay-found : {row : List (Codes S)} → Ledger before row → (a : S) (z o : Codes S) → listed before (lay before (lay before row z) o) (begun a z o) ≡ true →
       lay before row (begun a z o) ≡ lay before (lay before row z) o
@@ -48,7 +30,7 @@ module _ {S : Type 0} (before : S → S → Bool) (order : Order before) where
       by (inl e) =
           let k = held-both before order L (begun a z o) e in
           lay-held before order row a z o e ∙ sym (lay-known before order row o (k .1)) ∙ ap (λ r. lay before r o) (sym (lay-known before order row z (k .0)))
-      by (inr e) = absurd (true-false h (still-new row a z o e))
+      by (inr e) = absurd (true-false h (still-new before order row a z o e))
 
   pub lay-append : {row : List (Codes S)} → Ledger before row → (a : S) (z o : Codes S) → listed before (lay before (lay before row z) o) (begun a z o) ≡ false →
       lay before row (begun a z o) ≡ lay before (lay before row z) o ++ begun a z o ∷ []

@@ -1,17 +1,16 @@
 -- A diagram of a good number's codes has a vertex of its own for each vertex reached from that number.
-use mathlib.Core.Path.{_≡_, refl, sym, ap, subst, _∙_}
-use mathlib.Core.Bool.{Bool, true, false}
-use mathlib.Core.List.{List, [], _∷_, List·Memᴰ}
-use mathlib.Core.Logic.{_↔_, _⊎_, inl, inr, _≢_, Iff·trans, Iff·symm}
-use Prim.Native.Nat.{ℕ, zero, suc, _+_, _≤_, _<_}
+use mathlib.Core.Path.{_≡_, refl, sym, subst}
+use mathlib.Core.Bool.{Bool, true}
+use mathlib.Core.List.{List, _∷_}
+use mathlib.Core.Logic.{Iff·trans, Iff·symm}
+use Prim.Native.Nat.{ℕ, zero, suc, _+_, _≤_}
 use native.Mathlib.Omega.{arith}
 use lib.ListN.{length}
-use Rattle.std.specs.declared.option.Option.{Option}
-use Rattle.std.specs.declared.option.Option.the-variants.{Some, None}
+use Rattle.std.specs.declared.option.Option.the-variants.{Some}
 use Rattle.symbols.specs.Order.{Order}
 use Rattle.ledger.specs.declared.Vertex.{Vertex}
-use Rattle.ledger.specs.Diagrams.{look, Has, ends, passes, takes, SameCodes, Later, Good, Sound, IsDiagram, Reached, itself, over-zero, over-one, Counts}
-use Rattle.ledger.proofs.Reading.{some-same, none-some, nil-cons, head-same, has-at, has-on, first, upto-after, upto-not, outer-back, labels-agree, inners-agree, outers-agree}
+use Rattle.ledger.specs.Diagrams.{look, Has, ends, passes, takes, SameCodes, Later, Good, Sound, Reached, itself, over-zero, over-one, Counts}
+use Rattle.ledger.proofs.Reading.{some-same, none-some, nil-cons, head-same, first, upto-after, upto-not, outer-back, inners-agree, outers-agree}
 use Rattle.ledger.proofs.Canon.{vertex-good, inner-code, same-number}
 use Rattle.ledger.proofs.Pigeons.{pigeons, upwards, length-upwards, in-upwards}
 

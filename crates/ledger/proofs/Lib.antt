@@ -5,6 +5,7 @@ pub mod Least
 pub mod Sets
 pub mod Ends
 pub mod Rows
+pub mod Draws
 pub mod Drawn
 pub mod Parts
 pub mod Bytes
@@ -12,9 +13,15 @@ pub mod Laying
 pub mod Joins
 pub mod Gathering
 pub mod Orders
+pub mod Under
 pub mod Frames
 pub mod Finite
 pub mod Visiting
 pub mod Attaining
 pub mod Forming
 pub mod Downs
+pub mod Settling
+pub mod Members
+pub mod Picking
+pub mod Marks
+pub mod Changing

@@ -1,13 +1,13 @@
 -- The test for a code, and the codes of a list in order.
-use mathlib.Core.Path.{_≡_, refl, sym, ap, ap₂, subst, subst⁻¹, _∙_}
-use mathlib.Core.Bool.{Bool, true, false, cond}
+use mathlib.Core.Path.{_≡_, refl, sym, ap, subst, subst⁻¹}
+use mathlib.Core.Bool.{Bool, true, false}
 use mathlib.Core.List.{List, [], _∷_, _++_, map, List·Memᴰ, List·Memᴰ·head, List·Memᴰ·tail, List·Memᴰ·append-cases, Memᴰ·append-left, Memᴰ·append-right, Memᴰ·cast, Memᴰ·map, Memᴰ·of-map}
-use mathlib.Core.Logic.{_↔_, _⊎_, inl, inr}
+use mathlib.Core.Logic.{_⊎_, inl, inr}
 use Rattle.symbols.specs.Order.{Order, same-symbol}
-use Rattle.ledger.specs.Lists.{Codes, none, blank, begun, Member, Comes, Proper}
+use Rattle.ledger.specs.Lists.{Codes, none, blank, begun, Member, Proper}
 use Rattle.ledger.specs.Operations.{has}
 use Rattle.ledger.specs.Ordered.{code-before, blank-in, with-empty, later-codes, ordered, Ascending}
-use Rattle.ledger.proofs.Reading.{true-false, nil-cons}
+use Rattle.ledger.proofs.Reading.{true-false}
 use Rattle.ledger.proofs.Rows.{both-ways}
 use Rattle.ledger.proofs.Sets.{symbol-same, symbol-self, outer-comes, outer-never}
 

@@ -5,26 +5,26 @@ use Prim.Native.Nat.{ℕ, zero, suc, _+_, _≤_, _<_}
 use native.Mathlib.Omega.{arith}
 use native.Mathlib.Decide.{ℕ-discrete}
 use lib.ListN.{length}
-use Rattle.ledger.specs.Diagrams.{Apart}
+use Rattle.ledger.specs.Diagrams.{Apart, Counts}
 
-abbrev without : {d : ℕ} {ds : List ℕ} → List·Memᴰ d ds → List ℕ
+abbrev without : {A : Type 0} {d : A} {ds : List A} → List·Memᴰ d ds → List A
 without (List·Memᴰ·head {xs = xs} e) = xs
 without (List·Memᴰ·tail {x = x} m) = x ∷ without m
 
-one-less : {d : ℕ} {ds : List ℕ} (m : List·Memᴰ d ds) → length ds ≡ suc (length (without m))
+one-less : {A : Type 0} {d : A} {ds : List A} (m : List·Memᴰ d ds) → length ds ≡ suc (length (without m))
 one-less (List·Memᴰ·head e) = refl
 one-less (List·Memᴰ·tail m) = ap suc (one-less m)
 
-still-in : {d e : ℕ} {ds : List ℕ} (m : List·Memᴰ d ds) → List·Memᴰ e ds → (e ≡ d → ⊥) → List·Memᴰ e (without m)
+still-in : {A : Type 0} {d e : A} {ds : List A} (m : List·Memᴰ d ds) → List·Memᴰ e ds → (e ≡ d → ⊥) → List·Memᴰ e (without m)
 still-in (List·Memᴰ·head p) (List·Memᴰ·head q) other = absurd (other (q ∙ sym p))
 still-in (List·Memᴰ·head p) (List·Memᴰ·tail k) other = k
 still-in (List·Memᴰ·tail m) (List·Memᴰ·head q) other = List·Memᴰ·head q
 still-in (List·Memᴰ·tail m) (List·Memᴰ·tail k) other = List·Memᴰ·tail (still-in m k other)
 
-module _ (R : ℕ → ℕ → Type 0) where
-  pub pigeons : (ks ds : List ℕ) → Apart ks →
-      ((k : ℕ) → List·Memᴰ k ks → (d : ℕ) × List·Memᴰ d ds × R k d) →
-      ((k j d : ℕ) → List·Memᴰ k ks → List·Memᴰ j ks → R k d → R j d → k ≡ j) →
+module _ {A B : Type 0} (R : A → B → Type 0) where
+  pub pigeons : (ks : List A) (ds : List B) → Apart ks →
+      ((k : A) → List·Memᴰ k ks → (d : B) × List·Memᴰ d ds × R k d) →
+      ((k j : A) (d : B) → List·Memᴰ k ks → List·Memᴰ j ks → R k d → R j d → k ≡ j) →
       length ks ≤ length ds
   pigeons [] ds apart each own = omega arith
   pigeons (k ∷ ks) ds apart each own =
@@ -40,6 +40,13 @@ module _ (R : ℕ → ℕ → Type 0) where
       ))
       (λ i j d m n. own i j d (List·Memᴰ·tail m) (List·Memᴰ·tail n)) in
       omega (arith, one-less (at .1))
+
+-- a property counts as often as it counts
+pub counts-once : {A : Type 0} (P : A → Type 0) (m n : ℕ) → Counts P m → Counts P n → m ≡ n
+counts-once P m n p q =
+    let there = pigeons (λ k d. k ≡ d) (p .them) (q .them) (p .apart) (λ k i. (k, q .whole k (p .sound k i), refl)) (λ k j d a b e f. e ∙ sym f) in
+    let back = pigeons (λ k d. k ≡ d) (q .them) (p .them) (q .apart) (λ k i. (k, p .whole k (q .sound k i), refl)) (λ k j d a b e f. e ∙ sym f) in
+    omega (arith, p .many, q .many)
 
 abbrev pub upwards : ℕ → ℕ → List ℕ
 upwards k zero = []

@@ -2,7 +2,7 @@
 use mathlib.Core.Path.{_≡_, refl, sym, ap, subst, _∙_}
 use mathlib.Core.Bool.{Bool, true, false, not, _&&_}
 use mathlib.Core.List.{List, [], _∷_}
-use mathlib.Core.Logic.{_↔_, _⊎_, inl, inr}
+use mathlib.Core.Logic.{inl, inr}
 use Rattle.symbols.specs.Order.{Order, same-symbol}
 use Rattle.ledger.specs.Lists.{Codes, none, blank, begun, Member, Comes, Some-code, Proper, SameMembers, same}
 use Rattle.ledger.proofs.Reading.{nil-cons, head-same, tail-same, true-false, UpTo, upto-after, upto-both}
@@ -81,7 +81,7 @@ module _ {S : Type 0} (before : S → S → Bool) (order : Order before) where
   some-member blank k h = ([], refl)
   some-member (begun a z o) k h = let r = some-member o (h .1) (h .3) in (a ∷ r .0, inr (r .0, refl, r .1))
 
-  begun-member : (a : S) (z o : Codes S) → Proper before (begun a z o) → (rest : List S) × Member (begun a z o) (a ∷ rest)
+  pub begun-member : (a : S) (z o : Codes S) → Proper before (begun a z o) → (rest : List S) × Member (begun a z o) (a ∷ rest)
   begun-member a z o h = let r = some-member o (h .1) (h .3) in (r .0, inr (r .0, refl, r .1))
 
   module _ (a b : S) (z o y p : Codes S) (pt : Proper before (begun a z o)) (pu : Proper before (begun b y p)) (alike : SameMembers (begun a z o) (begun b y p)) where

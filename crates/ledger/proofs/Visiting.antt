@@ -1,25 +1,22 @@
 -- The walk of `Visits` is laying down.
-use mathlib.Core.Path.{_≡_, refl, sym, ap, ap₂, subst, subst⁻¹, _∙_}
+use mathlib.Core.Path.{_≡_, refl, sym, ap, ap₂, subst, _∙_}
 use mathlib.Core.Bool.{Bool, true, false}
-use mathlib.Core.List.{List, [], _∷_, _++_, append-nil, append-assoc}
+use mathlib.Core.List.{List, [], _∷_, _++_, append-assoc}
 use mathlib.Core.Logic.{_↔_, _⊎_, inl, inr}
 use Prim.Native.Nat.{ℕ, zero, suc, _+_, _≤_, _<_}
 use native.Mathlib.Omega.{arith}
 use native.Mathlib.Decide.{decLt}
 use lib.ListN.{length, getD, take, drop, take-append-drop, length-append}
 use lib.Seq.{length-take-le, take-suc, getD-take, take-take, take-at, take-length}
-use Rattle.std.specs.declared.option.Option.{Option}
-use Rattle.std.specs.declared.option.Option.the-variants.{Some, None}
 use Rattle.symbols.specs.Order.{Order}
-use Rattle.ledger.specs.Lists.{Codes, none, blank, begun, Proper}
+use Rattle.ledger.specs.Lists.{Codes, none, begun}
 use Rattle.ledger.specs.declared.Vertex.{Vertex}
-use Rattle.ledger.specs.Diagrams.{look, Good, Sound}
+use Rattle.ledger.specs.Diagrams.{Good, Sound}
 use Rattle.ledger.specs.Ledger.{listed, position, number, lay, list-in, lists, codes, vertices-of, Drawing, fresh}
 use Rattle.ledger.specs.Visits.{Visits, passed, comes-to}
-use Rattle.ledger.proofs.Reading.{true-false, none-some}
-use Rattle.ledger.proofs.Canon.{Kind, is-0, is-1, is-vertex, kind, vertex-good}
+use Rattle.ledger.proofs.Canon.{Kind, is-0, is-1, is-vertex, kind}
 use Rattle.ledger.proofs.Ends.{length-snoc, getD-last}
-use Rattle.ledger.proofs.Rows.{both-ways, Known, Ledger, known-held, listed-getD, listed-front, position-front, position-below, number-list, lay-known, lay-new, lay-adds, lay-ledger, empty-row}
+use Rattle.ledger.proofs.Rows.{both-ways, Known, known-held, listed-getD, position-front, position-below, number-list, lay-known, lay-new, lay-adds, lay-ledger, empty-row}
 use Rattle.ledger.proofs.Drawn.{Pictured, pictured, lists-vertices-of, codes-proper}
 
 module _ {S : Type 0} (before : S → S → Bool) (order : Order before) (vs : List (Vertex S)) (s : Sound before vs) where

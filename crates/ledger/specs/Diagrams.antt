@@ -1,6 +1,6 @@
 -- Vertices, the codes of a number in a row of vertices, what is reached from it, and diagrams in general.
 use mathlib.Core.Path.{_≡_}
-use mathlib.Core.Bool.{Bool, true, false}
+use mathlib.Core.Bool.{Bool, true}
 use mathlib.Core.List.{List, [], _∷_, List·Memᴰ}
 use mathlib.Core.Logic.{_↔_, _≢_}
 use Prim.Native.Nat.{ℕ, zero, suc, _+_, _≤_, _<_}
@@ -75,15 +75,15 @@ pub record IsDiagram {S : Type 0} (before : S → S → Bool) (ds : List (Vertex
   pub no-cycle : (n : ℕ) → LeadsTo ds n n → ⊥
   pub later : Later before ds
 
--- numbers that are all different
-abbrev pub Apart : List ℕ → Type 0
+-- things that are all different
+abbrev pub Apart : {A : Type 0} → List A → Type 0
 Apart [] = Unit {0}
 Apart (k ∷ ks) = (List·Memᴰ k ks → ⊥) × Apart ks
 
--- r is how many numbers have the property
-pub record Counts (P : ℕ → Type 0) (r : ℕ) : Type 0 where
-  pub them : List ℕ
+-- r is how many things, numbers or codes, have the property
+pub record Counts {A : Type 0} (P : A → Type 0) (r : ℕ) : Type 0 where
+  pub them : List A
   pub apart : Apart them
-  pub sound : (k : ℕ) → List·Memᴰ k them → P k
-  pub whole : (k : ℕ) → P k → List·Memᴰ k them
+  pub sound : (k : A) → List·Memᴰ k them → P k
+  pub whole : (k : A) → P k → List·Memᴰ k them
   pub many : length them ≡ r

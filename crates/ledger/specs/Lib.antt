@@ -7,3 +7,6 @@ pub mod Ordered
 pub mod Gather
 pub mod Dispatch
 pub mod Visits
+pub mod Statements
+pub mod PlainSets
+pub mod Examples

@@ -53,3 +53,9 @@ same before blank (begun b y p) = false
 same before (begun a z o) none = false
 same before (begun a z o) blank = false
 same before (begun a z o) (begun b y p) = same-symbol before a b && (same before z y && same before o p)
+
+-- the parts of a list: itself, and the parts of its outer and its inner list
+abbrev pub Part : {S : Type 0} → Codes S → Codes S → Type 0
+Part none u = none ≡ u
+Part blank u = blank ≡ u
+Part (begun a outer inner) u = (begun a outer inner ≡ u) ⊎ (Part outer u ⊎ Part inner u)

@@ -1,6 +1,5 @@
 -- What is asked of lists: whether a code is in one, joins by a rule, a list with or without a code, and what remains
 -- under a code.
-use mathlib.Core.Path.{_≡_}
 use mathlib.Core.Bool.{Bool, true, false, cond}
 use mathlib.Core.List.{List, [], _∷_}
 use Prim.Native.Nat.{ℕ, _/_, _%_}
