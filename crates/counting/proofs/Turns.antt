@@ -15,7 +15,7 @@ use Rattle.std.specs.declared.option.Option.the-variants.{Some, None}
 use Rattle.symbols.specs.Order.{Order}
 use Rattle.ledger.specs.declared.Vertex.{Vertex}
 use Rattle.ledger.specs.Lists.{Codes, begun}
-use Rattle.ledger.specs.Diagrams.{look, parts, Sound}
+use Rattle.ledger.specs.Diagrams.{look, parts, Formed}
 use Rattle.ledger.specs.Ledger.{codes}
 use Rattle.ledger.specs.Ordered.{ordered, blank-in}
 use Rattle.ledger.proofs.Orders.{ordered-member}
@@ -28,38 +28,38 @@ use Rattle.counting.specs.declared.tallying.Tally.{Tally}
 use Rattle.counting.specs.Tallies.{Counted, Tallied, held, vacant}
 use Rattle.counting.specs.Picks.{Short, Writes}
 use Rattle.counting.specs.Courses.{Stands, Leads, code-at, whole}
-use Rattle.counting.proofs.Sizes.{read-codes, terminal}
+use Rattle.counting.proofs.Sizes.{read-codes, at-terminal}
 use Rattle.counting.proofs.Nths.{nth-in, nth-some, nth-blank, turn-inner, turn-outer, outer-stands}
 
-module _ {S : Type 0} (before : S → S → Bool) (order : Order before) (vs : List (Vertex S)) (sound : Sound before vs) (spot : Spot) (stands : Stands vs spot) where
+module _ {S : Type 0} (before : S → S → Bool) (order : Order before) (vs : List (Vertex S)) (formed : Formed before vs) (spot : Spot) (stands : Stands vs spot) where
   pub turn-terminal : look vs (spot .list) ≡ None → Leads vs spot Ends
   turn-terminal e =
-      terminal before order vs sound (spot .list) (stands .0) e (λ m. (spot .before) < length (ordered (codes vs m)) → nth (ordered (codes vs m)) (spot .before) ≡ Some [])
+      at-terminal vs (spot .list) (stands .0) e (λ m. spot .before < length (ordered (codes vs m)) → nth (ordered (codes vs m)) (spot .before) ≡ Some [])
       (λ h. absurd (omega arith))
-      (λ h. let z : (spot .before) ≡ 0 = omega arith in ap (nth ([] ∷ [])) z)
+      (λ h. let z : spot .before ≡ 0 = omega arith in ap (nth ([] ∷ [])) z)
       (stands .1)
 
-  module _ (work : List Place) (tallied : Tallied vs ((spot .list) + 1) work) (here : Tally) (here-is : here ≡ held (getD work (spot .list) vacant)) (empty : ℕ) (empty-is : empty ≡ boolByte (here .empty)) where
+  module _ (work : List Place) (tallied : Tallied vs (spot .list + 1) work) (here : Tally) (here-is : here ≡ held (getD work (spot .list) vacant)) (empty : ℕ) (empty-is : empty ≡ boolByte (here .empty)) where
     empties : empty ≡ boolByte (blank-in (codes vs (spot .list)))
     empties = empty-is ∙ ap boolByte (ap (λ (r : Tally). r .empty) here-is ∙ tallied (spot .list) (omega arith) .blank)
 
-    pub turn-empty : (spot .before) < empty → Leads vs spot Ends
-    turn-empty h = nth-blank (codes vs (spot .list)) (spot .before) (subst (λ m. (spot .before) < m) empties h)
+    pub turn-empty : spot .before < empty → Leads vs spot Ends
+    turn-empty h = nth-blank (codes vs (spot .list)) (spot .before) (subst (λ m. spot .before < m) empties h)
 
-    module _ (t : S × ℕ × ℕ) (read : Some t ≡ mapped parts (look vs (spot .list))) (later : ℕ) (at-k : (spot .before) ≡ empty + later) where
+    module _ (t : S × ℕ × ℕ) (read : Some t ≡ mapped parts (look vs (spot .list))) (later : ℕ) (at-k : spot .before ≡ empty + later) where
       begins : codes vs (spot .list) ≡ begun (t .0) (codes vs (t .1)) (codes vs (t .2))
-      begins = read-codes before order vs sound (spot .list) t read
+      begins = read-codes before order vs formed (spot .list) t read
 
-      past : (spot .before) ≡ boolByte (blank-in (codes vs (spot .list))) + later
+      past : spot .before ≡ boolByte (blank-in (codes vs (spot .list))) + later
       past = at-k ∙ ap (λ m. m + later) empties
 
-      links-low : (t .1 < (spot .list)) × (t .2 < (spot .list))
+      links-low : (t .1 < spot .list) × (t .2 < spot .list)
       links-low =
           let l = looked vs (spot .list) t read in
           let z : t .1 ≡ l .0 .zero = ap (λ (x : S × ℕ × ℕ). x .1) (l .2) in
           let o : t .2 ≡ l .0 .one = ap (λ (x : S × ℕ × ℕ). x .2) (l .2) in
-          let zero-low = sound .formed .zero-below (spot .list) (l .0) (l .1) in
-          let one-low = sound .formed .one-below (spot .list) (l .0) (l .1) in
+          let zero-low = formed .zero-below (spot .list) (l .0) (l .1) in
+          let one-low = formed .one-below (spot .list) (l .0) (l .1) in
           (omega arith, omega arith)
 
       -- the one link's codes, as they were counted
