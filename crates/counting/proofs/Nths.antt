@@ -1,16 +1,14 @@
 -- The codes of a list one by one, from those of its outer and its inner list.
-use mathlib.Core.Path.{_≡_, refl, sym, ap, subst, subst⁻¹, _∙_}
+use mathlib.Core.Path.{_≡_, refl, sym, ap, _∙_}
 use mathlib.Core.Bool.{Bool, true, false}
-use mathlib.Core.List.{List, [], _∷_, _++_, map, append-assoc, append-nil, List·Memᴰ, List·Memᴰ·head, List·Memᴰ·tail}
-use mathlib.Core.Logic.{_⊎_, inl, inr}
-use Prim.Native.Nat.{ℕ, zero, suc, _+_, _-_, _≤_, _<_}
+use mathlib.Core.List.{List, [], _∷_, _++_, map, List·Memᴰ, List·Memᴰ·head, List·Memᴰ·tail}
+use Prim.Native.Nat.{ℕ, zero, suc, _+_, _<_}
 use native.Mathlib.Omega.{arith}
-use lib.ListN.{length, take, drop, set, length-append, length-map}
+use lib.ListN.{length, length-map}
 use Rattle.std.specs.Finite.{nth}
 use Rattle.std.specs.Options.{mapped}
-use Rattle.std.specs.declared.option.Option.{Option}
-use Rattle.std.specs.declared.option.Option.the-variants.{Some, None}
-use Rattle.ledger.specs.Lists.{Codes, none, blank, begun}
+use Rattle.std.specs.declared.option.Option.the-variants.{Some}
+use Rattle.ledger.specs.Lists.{Codes, begun}
 use Rattle.ledger.specs.Ordered.{ordered, later-codes, with-empty, blank-in}
 use mir.Val.{boolByte}
 use Rattle.counting.proofs.Sizes.{length-begun}

@@ -13,22 +13,35 @@ use memory::shelf::Shelf;
 use memory::work::Place;
 use symbols::Symbol;
 
-// The states of a place.
-const UNMARKED: u32 = 0;
-const MARKED: u32 = 1;
+// What marked and unmarked places hold: the state tells them apart.
+const UNMARKED: Place = Place {
+    state: 0,
+    list: 0,
+    other: 0,
+    number: 0,
+    count: 0,
+};
+
+const MARKED: Place = Place {
+    state: 1,
+    list: 0,
+    other: 0,
+    number: 0,
+    count: 0,
+};
 
 fn mark(work: &mut [Place], n: u32)
     requires { ⌜ n < length (now work) ⌝ }
     ensures { λ _. ⌜ now (work .exit) ≡ set (now (work .entry)) n marked-place ⌝ }
 {
-    work[n as usize] = Place { state: MARKED, list: 0, other: 0, number: 0, count: 0 };
+    work[n as usize] = MARKED;
 }
 
 fn is_marked(work: &[Place], n: u32) -> bool
     requires { ⌜ n < length (now work) ⌝ }
     ensures { λ r. ⌜ r ≡ is-mark (getD (now (work .entry)) n vacant) ⌝ }
 {
-    work[n as usize].state != UNMARKED
+    work[n as usize].state != UNMARKED.state
 }
 
 // Takes the marks off the numbers up to this one.
@@ -37,7 +50,7 @@ fn unmark_up_to(list: u32, work: &mut [Place])
     ensures { λ _. ⌜ Unmarked (list + 1) (now (work .exit)) ⌝ }
 {
     for n in 0..=list {
-        work[n as usize] = Place { state: UNMARKED, list: 0, other: 0, number: 0, count: 0 };
+        work[n as usize] = UNMARKED;
     }
 }
 

@@ -7,7 +7,8 @@ ghost use Rattle.ledger.specs.Diagrams.{Good, Sound};
 ghost use Rattle.ledger.specs.Ledger.{codes};
 ghost use Rattle.ledger.specs.Ordered.{ordered};
 ghost use Rattle.counting.specs.Tallies.{Counted, Tallied};
-ghost use Rattle.counting.specs.Picks.{Advances, AtMost, Falls, Keeps, Leads, LeftOf, Lower, Picked, PickKeeps, Short, Stands, Writes};
+ghost use Rattle.counting.specs.Picks.{Picked, PickKeeps, Short, Writes};
+ghost use Rattle.counting.specs.Courses.{Advances, AtMost, Falls, Keeps, Leads, LeftOf, Lower, Stands};
 use crate::tallying::tally_at;
 use crate::tallying::tally_up_to;
 use memory::reading::read_vertex;
@@ -25,20 +26,26 @@ pub enum PickFault {
     NoSuchCode,
 }
 
-// Where a pick has come: so many symbols are written, and the rest is the code of the list with so many codes before it.
+// A code of a list: the one that has so many codes of the list before it.
 #[derive(Clone, Copy)]
-struct Course {
+struct Spot {
     list: u32,
     before: u64,
+}
+
+// Where a pick has come: so many symbols are written, and the rest of the code is this one.
+#[derive(Clone, Copy)]
+struct Course {
+    rest: Spot,
     length: usize,
 }
 
-// One turn: the rest is empty; or is a code of the zero link; or is the label, and then a code of the one link.
+// What a code of a list is: empty; or a code of the zero link; or the label, and then a code of the one link.
 #[derive(Drop, Clone, Copy)]
 enum Turn<S> {
     Ends,
-    Passes(u32, u64),
-    Takes(S, u32, u64),
+    Passes(Spot),
+    Takes(S, Spot),
 }
 
 // How many codes are left of those before, without these; nothing where these are more.
@@ -49,23 +56,32 @@ fn left_of(before: u64, these: Option<u64>) -> Option<u64>
     before.checked_sub(these?)
 }
 
-// The turn at a list.
-fn turn_at<S: Symbol, B: Shelf<S>>(shelf: &B, list: u32, before: u64, work: &[Place]) -> Turn<S>
-    requires { ⌜ list < length (now work) ⌝ }
-    ensures below { λ r. ⌜ Lower list r ⌝ }
-    ensures value { λ r. ⌜ (Sound (S·Symbol .before) (B·Shelf .vertices (now (shelf .entry))) → Tallied (B·Shelf .vertices (now (shelf .entry))) (list + 1) (now (work .entry)) → Stands (B·Shelf .vertices (now (shelf .entry))) list before → Leads (B·Shelf .vertices (now (shelf .entry))) list before r) ⌝ }
+// What this code is.
+fn turn_at<S: Symbol, B: Shelf<S>>(shelf: &B, spot: Spot, work: &[Place]) -> Turn<S>
+    requires { ⌜ spot .list < length (now work) ⌝ }
+    ensures below { λ r. ⌜ Lower spot r ⌝ }
+    ensures value { λ r. ⌜ (Sound (S·Symbol .before) (B·Shelf .vertices (now (shelf .entry))) → Tallied (B·Shelf .vertices (now (shelf .entry))) (spot .list + 1) (now (work .entry)) → Stands (B·Shelf .vertices (now (shelf .entry))) spot → Leads (B·Shelf .vertices (now (shelf .entry))) spot r) ⌝ }
 {
-    let Some((label, zero, one)) = read_vertex(shelf, list) else {
+    let Some((label, zero, one)) = read_vertex(shelf, spot.list) else {
         return Turn::Ends;
     };
-    let empty = u64::from(tally_at(work, list).empty);
-    let Some(later) = before.checked_sub(empty) else {
+    let empty = u64::from(tally_at(work, spot.list).empty);
+    let Some(later) = spot.before.checked_sub(empty) else {
         return Turn::Ends;
     };
     let Some(left) = left_of(later, tally_at(work, one).codes) else {
-        return Turn::Takes(label, one, later);
+        return Turn::Takes(
+            label,
+            Spot {
+                list: one,
+                before: later,
+            },
+        );
     };
-    Turn::Passes(zero, empty + left)
+    Turn::Passes(Spot {
+        list: zero,
+        before: empty + left,
+    })
 }
 
 fn put<S: Symbol>(out: &mut [S], at: usize, symbol: S)
@@ -76,35 +92,49 @@ fn put<S: Symbol>(out: &mut [S], at: usize, symbol: S)
 }
 
 // Makes a turn, and writes the label that it takes; nothing where the code ends.
-fn advance<S: Symbol, B: Shelf<S>>(shelf: &B, course: Course, out: &mut [S], work: &[Place]) -> Option<Course>
-    requires room { ⌜ course .list < length (now work) ⌝ }
-    requires length { ⌜ course .length ≤ 64 ⌝ }
+fn advance<S: Symbol, B: Shelf<S>>(
+    shelf: &B,
+    course: Course,
+    out: &mut [S],
+    work: &[Place],
+) -> Option<Course>
+    requires room { ⌜ course .rest .list < length (now work) ⌝ }
+    requires within { ⌜ course .length ≤ 64 ⌝ }
     requires output { ⌜ 64 ≤ length (now out) ⌝ }
     ensures below { λ r. ⌜ Falls course r ⌝ }
-    ensures kept { λ r. ⌜ Keeps r (now (out .entry)) (now (out .exit)) ⌝ }
-    ensures value { λ r. ⌜ (Sound (S·Symbol .before) (B·Shelf .vertices (now (shelf .entry))) → Tallied (B·Shelf .vertices (now (shelf .entry))) (course .list + 1) (now (work .entry)) → Stands (B·Shelf .vertices (now (shelf .entry))) (course .list) (course .before) → Advances (B·Shelf .vertices (now (shelf .entry))) course (now (out .entry)) r (now (out .exit))) ⌝ }
+    ensures kept { λ r. ⌜ Keeps (now (out .entry)) r (now (out .exit)) ⌝ }
+    ensures value { λ r. ⌜ (Sound (S·Symbol .before) (B·Shelf .vertices (now (shelf .entry))) → Tallied (B·Shelf .vertices (now (shelf .entry))) (course .rest .list + 1) (now (work .entry)) → Stands (B·Shelf .vertices (now (shelf .entry))) (course .rest) → Advances (B·Shelf .vertices (now (shelf .entry))) course (now (out .entry)) r (now (out .exit))) ⌝ }
 {
-    match turn_at(shelf, course.list, course.before, work) {
+    match turn_at(shelf, course.rest, work) {
         Turn::Ends => None,
-        Turn::Passes(list, before) => Some(Course { list, before, length: course.length }),
-        Turn::Takes(label, list, before) => {
+        Turn::Passes(rest) => Some(Course {
+            rest,
+            length: course.length,
+        }),
+        Turn::Takes(label, rest) => {
             if course.length >= LONGEST {
                 return None;
             }
             put(out, course.length, label);
-            Some(Course { list, before, length: course.length + 1 })
+            Some(Course {
+                rest,
+                length: course.length + 1,
+            })
         }
     }
 }
 
-// Writes the code of the list with k before it, and answers its length.
-fn write_code<S: Symbol, B: Shelf<S>>(shelf: &B, list: u32, k: u64, out: &mut [S], work: &[Place]) -> usize
-    requires room { ⌜ list < length (now work) ⌝ }
+// Writes a code to the start of `out`, and answers its length.
+fn write_code<S: Symbol, B: Shelf<S>>(shelf: &B, spot: Spot, out: &mut [S], work: &[Place]) -> usize
+    requires room { ⌜ spot .list < length (now work) ⌝ }
     requires output { ⌜ 64 ≤ length (now out) ⌝ }
     ensures kept { λ r. ⌜ (r ≤ 64) × (drop r (now (out .exit)) ≡ drop r (now (out .entry))) ⌝ }
-    ensures value { λ r. ⌜ (Sound (S·Symbol .before) (B·Shelf .vertices (now (shelf .entry))) → Tallied (B·Shelf .vertices (now (shelf .entry))) (list + 1) (now (work .entry)) → Stands (B·Shelf .vertices (now (shelf .entry))) list k → Short (codes (B·Shelf .vertices (now (shelf .entry))) list) → Writes (ordered (codes (B·Shelf .vertices (now (shelf .entry))) list)) k (now (out .entry)) r (now (out .exit))) ⌝ }
+    ensures value { λ r. ⌜ (Sound (S·Symbol .before) (B·Shelf .vertices (now (shelf .entry))) → Tallied (B·Shelf .vertices (now (shelf .entry))) (spot .list + 1) (now (work .entry)) → Stands (B·Shelf .vertices (now (shelf .entry))) spot → Short (codes (B·Shelf .vertices (now (shelf .entry))) (spot .list)) → Writes (ordered (codes (B·Shelf .vertices (now (shelf .entry))) (spot .list))) (spot .before) (now (out .entry)) r (now (out .exit))) ⌝ }
 {
-    let mut course = Course { list, before: k, length: 0 };
+    let mut course = Course {
+        rest: spot,
+        length: 0,
+    };
     while let Some(next) = advance(shelf, course, out, work) {
         course = next;
     }
@@ -112,7 +142,13 @@ fn write_code<S: Symbol, B: Shelf<S>>(shelf: &B, list: u32, k: u64, out: &mut [S
 }
 
 // Writes the code of the list with k codes before it to the start of `out`, and answers its length.
-pub fn pick<S: Symbol, B: Shelf<S>>(shelf: &B, list: u32, k: u64, out: &mut [S], work: &mut [Place]) -> Result<usize, PickFault>
+pub fn pick<S: Symbol, B: Shelf<S>>(
+    shelf: &B,
+    list: u32,
+    k: u64,
+    out: &mut [S],
+    work: &mut [Place],
+) -> Result<usize, PickFault>
     requires room { ⌜ list < length (now work) ⌝ }
     requires output { ⌜ 64 ≤ length (now out) ⌝ }
     ensures answer { λ r. ⌜ (Sound (S·Symbol .before) (B·Shelf .vertices (now (shelf .entry))) → Good (B·Shelf .vertices (now (shelf .entry))) list → Picked (codes (B·Shelf .vertices (now (shelf .entry))) list) k (now (out .entry)) r (now (out .exit))) ⌝ }
@@ -125,5 +161,5 @@ pub fn pick<S: Symbol, B: Shelf<S>>(shelf: &B, list: u32, k: u64, out: &mut [S],
     if k >= count {
         return Err(PickFault::NoSuchCode);
     }
-    Ok(write_code(shelf, list, k, out, work))
+    Ok(write_code(shelf, Spot { list, before: k }, out, work))
 }

@@ -1,6 +1,6 @@
 // How many codes a list has, and whether the empty code is one of them: one pass over the numbers up to the list's,
 // each counted from its two links, which are lower.
-ghost use Prim.Native.Nat.{ℕ, _+_, _<_, _≤_};
+ghost use Prim.Native.Nat.{ℕ, _+_, _<_};
 ghost use lib.ListN.{length, getD};
 ghost use mathlib.Core.Path.{_≡_};
 ghost use Rattle.ledger.specs.Diagrams.{Good, Sound};
@@ -14,40 +14,54 @@ use symbols::Symbol;
 
 // What is known of a list: how many codes it has, if fewer than 2^64, and whether the empty code is one of them.
 #[derive(Clone, Copy)]
-pub struct Tally {
-    pub codes: Option<u64>,
-    pub empty: bool,
+pub(crate) struct Tally {
+    pub(crate) codes: Option<u64>,
+    pub(crate) empty: bool,
 }
 
 // The states of a place: the count is in it, or is 2^64 or more.
 const COUNTED: u32 = 0;
+
 const TOO_MANY: u32 = 1;
 
 // The place that keeps a tally.
-fn keep(tally: Tally) -> Place
+fn place_of(tally: Tally) -> Place
     ensures { λ r. ⌜ held r ≡ tally ⌝ }
 {
-    let number = if tally.empty { 1 } else { 0 };
-    match tally.codes {
-        Some(count) => Place { state: COUNTED, list: 0, other: 0, number, count },
-        None => Place { state: TOO_MANY, list: 0, other: 0, number, count: 0 },
+    let (state, count) = match tally.codes {
+        Some(count) => (COUNTED, count),
+        None => (TOO_MANY, 0),
+    };
+    Place {
+        state,
+        list: 0,
+        other: 0,
+        number: u32::from(tally.empty),
+        count,
     }
 }
 
 // The tally that a place keeps.
-fn kept(place: Place) -> Tally
+fn tally_in(place: Place) -> Tally
     ensures { λ r. ⌜ r ≡ held place ⌝ }
 {
-    let codes = if place.state == COUNTED { Some(place.count) } else { None };
-    Tally { codes, empty: place.number != 0 }
+    let codes = if place.state == COUNTED {
+        Some(place.count)
+    } else {
+        None
+    };
+    Tally {
+        codes,
+        empty: place.number != 0,
+    }
 }
 
 // The tally of a list that was counted.
-pub fn tally_at(work: &[Place], n: u32) -> Tally
+pub(crate) fn tally_at(work: &[Place], n: u32) -> Tally
     requires { ⌜ n < length (now work) ⌝ }
     ensures { λ r. ⌜ r ≡ held (getD (now (work .entry)) n vacant) ⌝ }
 {
-    kept(work[n as usize])
+    tally_in(work[n as usize])
 }
 
 // A sum of two counts.
@@ -63,20 +77,26 @@ fn tally_of<S: Symbol, B: Shelf<S>>(shelf: &B, n: u32, work: &[Place]) -> Tally
     ensures { λ r. ⌜ (Sound (S·Symbol .before) (B·Shelf .vertices (now (shelf .entry))) → Good (B·Shelf .vertices (now (shelf .entry))) n → Tallied (B·Shelf .vertices (now (shelf .entry))) n (now (work .entry)) → Tells (codes (B·Shelf .vertices (now (shelf .entry))) n) r) ⌝ }
 {
     let Some((_, zero, one)) = read_vertex(shelf, n) else {
-        return Tally { codes: Some(n as u64), empty: n == 1 };
+        return Tally {
+            codes: Some(n as u64),
+            empty: n == 1,
+        };
     };
     let outer = tally_at(work, zero);
     let inner = tally_at(work, one);
-    Tally { codes: total(outer.codes, inner.codes), empty: outer.empty }
+    Tally {
+        codes: total(outer.codes, inner.codes),
+        empty: outer.empty,
+    }
 }
 
 // Keeps the tally of each list up to this one.
-pub fn tally_up_to<S: Symbol, B: Shelf<S>>(shelf: &B, list: u32, work: &mut [Place])
+pub(crate) fn tally_up_to<S: Symbol, B: Shelf<S>>(shelf: &B, list: u32, work: &mut [Place])
     requires { ⌜ list < length (now work) ⌝ }
     ensures { λ _. ⌜ (Sound (S·Symbol .before) (B·Shelf .vertices (now (shelf .entry))) → Good (B·Shelf .vertices (now (shelf .entry))) list → Tallied (B·Shelf .vertices (now (shelf .entry))) (list + 1) (now (work .exit))) ⌝ }
 {
     for n in 0..=list {
-        work[n as usize] = keep(tally_of(shelf, n, work));
+        work[n as usize] = place_of(tally_of(shelf, n, work));
     }
 }
 

@@ -1,6 +1,6 @@
-use mathlib.Core.Path.{_≡_, refl, sym, ap, subst, subst⁻¹, _∙_}
+use mathlib.Core.Path.{_≡_, sym, ap, subst, subst⁻¹, _∙_}
 use mathlib.Core.Bool.{Bool, true, false}
-use Prim.Native.Nat.{ℕ, _+_, _-_, _≤_}
+use Prim.Native.Nat.{_+_, _-_, _≤_}
 use native.Mathlib.Omega.{arith}
 use Rattle.ledger.specs.Diagrams.{Formed}
 use mir.Val.{boolByte}
@@ -17,9 +17,9 @@ loop-n-holds g c = (
 
 pub loop-n-again : need.loop-n-again
 loop-n-again g c = elim (c .if-visit .came) [
-    | then-visit w ↦ step true (w .if-visit .taken) (w .reached-is)
-    | else-visit w ↦ step false (w .if-visit .left) (let e = w .reached-is in omega arith)
-  ]
+  | then-visit w ↦ step true (w .if-visit .taken) (w .reached-is)
+  | else-visit w ↦ step false (w .if-visit .left) (let e = w .reached-is in omega arith)
+]
   where
     step : (b : Bool) → c .visit .result ≡ b → c .if-visit .reached ≡ c .loop-n .reached + boolByte b →
         (c .if-visit .reached + (c .loop-n .n - 1) ≤ c .args .list) ×

@@ -13,7 +13,7 @@ returns-then-course-ge-LONGEST g c =
       kept = refl;
       value = λ sound tallied stands.
           let turn = c .in-Takes .ensures tt .value sound tallied stands in
-          over-long (g .B·Shelf .vertices (c .args .shelf .now)) (c .args .course) (c .in-Takes .label) (c .in-Takes .list) (c .in-Takes .before) (c .if-course-ge-LONGEST .taken) (turn .0) (turn .1);
+          over-long (g .B·Shelf .vertices (c .args .shelf .now)) (c .args .course) (c .in-Takes .label) (c .in-Takes .rest) (c .if-course-ge-LONGEST .taken) (turn .0) (turn .1);
     }
 
 pub returns-else-course-ge-LONGEST : need.returns-else-course-ge-LONGEST
@@ -24,7 +24,7 @@ returns-else-course-ge-LONGEST g c =
       value = λ sound tallied stands.
           let turn = c .in-Takes .ensures tt .value sound tallied stands in (
             turn .0,
-            whole-takes (g .B·Shelf .vertices (c .args .shelf .now)) (c .args .course) (c .args .out .now) (c .put .last .out) (c .in-Takes .label) (c .in-Takes .list) (c .in-Takes .before)
+            whole-takes (g .B·Shelf .vertices (c .args .shelf .now)) (c .args .course) (c .args .out .now) (c .put .last .out) (c .in-Takes .label) (c .in-Takes .rest)
                 (omega arith) (c .put .ensures) (turn .1),
           );
     }

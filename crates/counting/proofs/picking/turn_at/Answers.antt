@@ -1,5 +1,5 @@
 use mathlib.Core.Path.{_≡_}
-use Prim.Native.Nat.{ℕ, _+_}
+use Prim.Native.Nat.{_+_}
 use native.Mathlib.Omega.{arith}
 use Rattle.memory.proofs.Looks.{unlooked}
 use Rattle.counting.proofs.Turns.{turn-terminal, turn-empty, inner-counted, turn-takes, turn-passes}
@@ -13,8 +13,8 @@ returns-in-rest g c =
     record {
       below = tt;
       value = λ sound tallied stands.
-          turn-terminal (g .S·Symbol .before) (g .S·Symbol·met .ordered) (g .B·Shelf .vertices (c .args .shelf .now)) sound (c .args .list) (c .args .before) stands
-          (unlooked (g .B·Shelf .vertices (c .args .shelf .now)) (c .args .list) (c .in-rest .ensures tt .value (sound .formed)));
+          turn-terminal (g .S·Symbol .before) (g .S·Symbol·met .ordered) (g .B·Shelf .vertices (c .args .shelf .now)) (sound .formed) (c .args .spot) stands
+          (unlooked (g .B·Shelf .vertices (c .args .shelf .now)) (c .args .spot .list) (c .in-rest .ensures tt .value (sound .formed)));
     }
 
 pub returns-in-rest-checked-sub : need.returns-in-rest-checked-sub
@@ -23,7 +23,7 @@ returns-in-rest-checked-sub g c =
       below = tt;
       value = λ sound tallied stands.
           let few = c .in-rest-checked-sub .ensures tt in
-          turn-empty (g .S·Symbol .before) (g .S·Symbol·met .ordered) (g .B·Shelf .vertices (c .args .shelf .now)) sound (c .args .list) (c .args .before) stands
+          turn-empty (g .S·Symbol .before) (g .S·Symbol·met .ordered) (g .B·Shelf .vertices (c .args .shelf .now)) (sound .formed) (c .args .spot) stands
           (c .args .work .now) tallied (c .tally-at .result) (c .tally-at .ensures) (c .from-empty .result) (c .from-empty .ensures)
           (omega arith);
     }
@@ -34,13 +34,13 @@ returns-in-rest-left-of g c =
       below = c .in-Some .ensures tt .below .2;
       value = λ sound tallied stands.
           let sub = c .in-Some-checked-sub .ensures tt in
-          let at-k : c .args .before ≡ c .from-empty .result + c .in-Some-checked-sub .later = omega arith in
+          let at-k : c .args .spot .before ≡ c .from-empty .result + c .in-Some-checked-sub .later = omega arith in
           let read = c .in-Some .ensures tt .value (sound .formed) in
-          turn-takes (g .S·Symbol .before) (g .S·Symbol·met .ordered) (g .B·Shelf .vertices (c .args .shelf .now)) sound (c .args .list) (c .args .before) stands
+          turn-takes (g .S·Symbol .before) (g .S·Symbol·met .ordered) (g .B·Shelf .vertices (c .args .shelf .now)) (sound .formed) (c .args .spot) stands
           (c .args .work .now) tallied (c .tally-at .result) (c .tally-at .ensures) (c .from-empty .result) (c .from-empty .ensures)
           _ read (c .in-Some-checked-sub .later) at-k
           (c .in-rest-left-of .ensures tt .value _
-          (inner-counted (g .S·Symbol .before) (g .S·Symbol·met .ordered) (g .B·Shelf .vertices (c .args .shelf .now)) sound (c .args .list) (c .args .before) stands
+          (inner-counted (g .S·Symbol .before) (g .S·Symbol·met .ordered) (g .B·Shelf .vertices (c .args .shelf .now)) (sound .formed) (c .args .spot) stands
           (c .args .work .now) tallied (c .tally-at .result) (c .tally-at .ensures) (c .from-empty .result) (c .from-empty .ensures)
           _ read (c .in-Some-checked-sub .later) at-k (c .tally-at-2 .result) (c .tally-at-2 .ensures)));
     }
@@ -51,13 +51,13 @@ returns g c =
       below = c .in-Some .ensures tt .below .1;
       value = λ sound tallied stands.
           let sub = c .in-Some-checked-sub .ensures tt in
-          let at-k : c .args .before ≡ c .from-empty .result + c .in-Some-checked-sub .later = omega arith in
+          let at-k : c .args .spot .before ≡ c .from-empty .result + c .in-Some-checked-sub .later = omega arith in
           let read = c .in-Some .ensures tt .value (sound .formed) in
-          turn-passes (g .S·Symbol .before) (g .S·Symbol·met .ordered) (g .B·Shelf .vertices (c .args .shelf .now)) sound (c .args .list) (c .args .before) stands
+          turn-passes (g .S·Symbol .before) (g .S·Symbol·met .ordered) (g .B·Shelf .vertices (c .args .shelf .now)) (sound .formed) (c .args .spot) stands
           (c .args .work .now) tallied (c .tally-at .result) (c .tally-at .ensures) (c .from-empty .result) (c .from-empty .ensures)
           _ read (c .in-Some-checked-sub .later) at-k (c .in-Some-left-of .left)
           (c .in-Some-left-of .ensures tt .value _
-          (inner-counted (g .S·Symbol .before) (g .S·Symbol·met .ordered) (g .B·Shelf .vertices (c .args .shelf .now)) sound (c .args .list) (c .args .before) stands
+          (inner-counted (g .S·Symbol .before) (g .S·Symbol·met .ordered) (g .B·Shelf .vertices (c .args .shelf .now)) (sound .formed) (c .args .spot) stands
           (c .args .work .now) tallied (c .tally-at .result) (c .tally-at .ensures) (c .from-empty .result) (c .from-empty .ensures)
           _ read (c .in-Some-checked-sub .later) at-k (c .tally-at-2 .result) (c .tally-at-2 .ensures)));
     }

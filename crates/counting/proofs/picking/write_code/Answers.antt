@@ -1,9 +1,8 @@
-use mathlib.Core.Path.{sym, ap, _∙_}
-use Prim.Native.Nat.{_+_}
+use mathlib.Core.Path.{ap, _∙_}
 use native.Mathlib.Omega.{arith}
 use lib.ListN.{drop, length}
 use Rattle.ledger.specs.Ledger.{codes}
-use Rattle.counting.specs.Picks.{whole}
+use Rattle.counting.specs.Courses.{whole}
 use Rattle.counting.proofs.Turns.{drop-then, whole-writes}
 use Rattle.counting.proofs.picking.write_code.Needs as need
 
@@ -33,7 +32,7 @@ returns g c =
           let came = c .loop-next .inv .3 sound tallied stands in
           let ends = c .in-rest .ensures tt .value sound (λ k h. tallied k (omega arith)) (came .0) in
           whole-writes (g .S·Symbol .before) (g .S·Symbol·met .ordered) (g .B·Shelf .vertices (c .args .shelf .now)) (c .loop-next .course)
-          (codes (g .B·Shelf .vertices (c .args .shelf .now)) (c .args .list)) (c .args .k) (c .args .out .now) (c .advance .last .out)
+          (codes (g .B·Shelf .vertices (c .args .shelf .now)) (c .args .spot .list)) (c .args .spot .before) (c .args .out .now) (c .advance .last .out)
           (omega arith) small kept short
           (ap (whole (g .B·Shelf .vertices (c .args .shelf .now)) (c .loop-next .course)) same ∙ came .1) (ends .0) (ends .1) (ends .2);
     }
