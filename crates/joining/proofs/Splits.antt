@@ -15,10 +15,8 @@ use Rattle.ledger.specs.Lists.{Codes, none, blank, begun}
 use Rattle.ledger.specs.Diagrams.{look, parts, Good, Sound}
 use Rattle.ledger.specs.Ledger.{codes}
 use Rattle.ledger.specs.Operations.{make, join, join-blank, join-over}
-use Rattle.ledger.proofs.Canon.{Kind, is-0, is-1, is-vertex, kind}
-use Rattle.ledger.proofs.Drawn.{Pictured, pictured}
+use Rattle.ledger.proofs.Draws.{terminal, codes-formed}
 use Rattle.ledger.proofs.Reading.{none-some}
-use Rattle.ledger.proofs.Rows.{both-ways}
 use Rattle.memory.specs.Shelves.{LinksBelow}
 use Rattle.joining.specs.Pairs.{sum, first-alone, second-alone, both-heads, parted, apart, Falls}
 use Rattle.joining.specs.declared.pairs.Pair.{Pair}
@@ -66,10 +64,6 @@ module _ {S : Type 0} (before : S → S → Bool) (f : Bool → Bool → Bool) w
   join-first-blank a z o = ap (make a (join before f z blank)) (sym (join-none o))
 
 module _ {S : Type 0} (before : S → S → Bool) (order : Order before) (vs : List (Vertex S)) (sound : Sound before vs) (f : Bool → Bool → Bool) where
-  -- what a pair stands for
-  stands : Pair → Codes S
-  stands pair = join before f (codes vs (pair .first)) (codes vs (pair .second))
-
   pub record Parted (pair : Pair) (s : Split S) : Type 0 where
     pub outer-first : Good vs (s .outer .first)
     pub outer-second : Good vs (s .outer .second)
@@ -79,7 +73,7 @@ module _ {S : Type 0} (before : S → S → Bool) (order : Order before) (vs : L
         make (s .label) (join before f (codes vs (s .outer .first)) (codes vs (s .outer .second))) (join before f (codes vs (s .inner .first)) (codes vs (s .inner .second)))
 
   here : (n : ℕ) (v : Vertex S) → look vs n ≡ Some v → codes vs n ≡ begun (v .label) (codes vs (v .zero)) (codes vs (v .one))
-  here = pictured before order vs sound .unfolds
+  here = codes-formed before order vs (sound .formed)
 
   module _ (pair : Pair) (first : Good vs (pair .first)) (second : Good vs (pair .second)) (first-some : 0 < pair .first) (second-some : 0 < pair .second) where
     at-first : (v : Vertex S) → look vs (pair .first) ≡ Some v → codes vs (pair .second) ≡ blank → Parted pair (first-alone pair (parts v))
@@ -173,12 +167,7 @@ module _ {S : Type 0} (before : S → S → Bool) (order : Order before) (vs : L
 
     -- a number that is not 0 and shows no vertex is 1
     one-only : (n : ℕ) → Good vs n → 0 < n → look vs n ≡ None → n ≡ 1
-    one-only n good some e = by (kind vs n good)
-      where
-        by : Kind vs n → n ≡ 1
-        by (is-0 p) = absurd (omega arith)
-        by (is-1 p) = p
-        by (is-vertex v p) = absurd (none-some e p)
+    one-only n good some e = elim (terminal vs n good e) [ inl p ↦ absurd (omega arith) | inr p ↦ p ]
 
     pub parted-is : (s : Split S) → apart before vs pair ≡ Some s → Parted pair s
     parted-is s h = by (look vs (pair .first)) (look vs (pair .second)) refl refl h

@@ -37,7 +37,7 @@ use Rattle.joining.specs.declared.turns.Turn.{Turn}
 use Rattle.joining.specs.declared.turns.Turn.the-variants.{Meet, Answer}
 use Rattle.joining.specs.declared.turns.State.{State}
 use Rattle.joining.proofs.Splits.{Parted, parted-is, parted-some}
-use Rattle.joining.proofs.Growing.{codes-front, good-front, apart-front, joint-front, right-front, joint-proper, settled-good, settled-is}
+use Rattle.joining.proofs.Growing.{good-front, apart-front, joint-front, right-front, joint-proper, settled-good, settled-is}
 use Rattle.joining.proofs.Coupling.{Couples, couples}
 use Rattle.joining.proofs.Stacks.{Over, stack-push, stack-top, held-is, stack-longer}
 
@@ -48,16 +48,13 @@ module _ {S : Type 0} (before : S → S → Bool) (order : Order before) (old : 
     old-sound = sound-front before order old more (subst (Sound before) extends sound)
 
     old-good : (n : ℕ) → Good old n → Good vs n
-    old-good n good = subst⁻¹ (λ (us : List (Vertex S)). Good us n) extends (good-front before order old more old-sound n good)
-
-    old-codes : (n : ℕ) → Good old n → codes vs n ≡ codes old n
-    old-codes n good = ap (λ (us : List (Vertex S)). codes us n) extends ∙ codes-front before order old more old-sound n good
+    old-good n good = subst⁻¹ (λ (us : List (Vertex S)). Good us n) extends (good-front before order old more n good)
 
     old-joint : (pair : Pair) → Good old (pair .first) → Good old (pair .second) → joint before vs rule pair ≡ joint before old rule pair
-    old-joint pair first second = ap (λ (us : List (Vertex S)). joint before us rule pair) extends ∙ joint-front before order old more old-sound rule pair first second
+    old-joint pair first second = ap (λ (us : List (Vertex S)). joint before us rule pair) extends ∙ joint-front before order old more rule pair first second
 
     old-apart : (pair : Pair) → Good old (pair .first) → Good old (pair .second) → apart before vs pair ≡ apart before old pair
-    old-apart pair first second = ap (λ (us : List (Vertex S)). apart before us pair) extends ∙ apart-front before order old more old-sound pair first second
+    old-apart pair first second = ap (λ (us : List (Vertex S)). apart before us pair) extends ∙ apart-front before order old more pair first second
 
   -- a pair is met
   module _ (pair : Pair) (R : Running before old rule goal vs table places (record { height = height; turn = Meet pair })) where
@@ -224,7 +221,7 @@ module _ {S : Type 0} (before : S → S → Bool) (order : Order before) (old : 
             let o = outcome (Ok m) c in
             let laid : Laid before (over .0 .base) (joint before old rule (f .pair)) ws m = o .0 in
             let ext : ws ≡ old ++ (R .more ++ o .1 .0) = o .1 .1 ∙ ap (λ (us : List (Vertex S)). us ++ o .1 .0) (R .extends) ∙ append-assoc old (R .more) (o .1 .0) in
-            let right : Right before ws table = subst⁻¹ (λ (us : List (Vertex S)). Right before us table) (o .1 .1) (right-front before order vs (o .1 .0) (R .sound) table (R .right)) in
+            let right : Right before ws table = subst⁻¹ (λ (us : List (Vertex S)). Right before us table) (o .1 .1) (right-front before order vs (o .1 .0) table (R .right)) in
             let mine : RightEntry before ws (asked rule (f .pair)) m = record {
                   first = o-good (laid .sound) (R .more ++ o .1 .0) ext (f .pair .first) (over .0 .first);
                   second = o-good (laid .sound) (R .more ++ o .1 .0) ext (f .pair .second) (over .0 .second);
@@ -240,11 +237,11 @@ module _ {S : Type 0} (before : S → S → Bool) (order : Order before) (old : 
             }
           where
             o-good : Sound before ws → (more : List (Vertex S)) → ws ≡ old ++ more → (k : ℕ) → Good old k → Good ws k
-            o-good sw more x k g = subst⁻¹ (λ (us : List (Vertex S)). Good us k) x (good-front before order old more (sound-front before order old more (subst (Sound before) x sw)) k g)
+            o-good sw more x k g = subst⁻¹ (λ (us : List (Vertex S)). Good us k) x (good-front before order old more k g)
 
             o-joint : Sound before ws → (more : List (Vertex S)) → ws ≡ old ++ more → (pair : Pair) → Good old (pair .first) → Good old (pair .second) → joint before ws rule pair ≡ joint before old rule pair
             o-joint sw more x pair gf gs =
-                ap (λ (us : List (Vertex S)). joint before us rule pair) x ∙ joint-front before order old more (sound-front before order old more (subst (Sound before) x sw)) rule pair gf gs
+                ap (λ (us : List (Vertex S)). joint before us rule pair) x ∙ joint-front before order old more rule pair gf gs
 
             entry : (q : Question) (k : ℕ) → (table q ≡ Some k → RightEntry before ws q k) → RightEntry before ws (asked rule (f .pair)) m →
                 (table q ≡ Some k) ⊎ ((q ≡ asked rule (f .pair)) × (k ≡ m)) → RightEntry before ws q k

@@ -49,6 +49,7 @@ fn meet<S: Symbol, B: Shelf<S>, R: RecallTable>(shelf: &B, recall: &R, rule: Rul
     if let Some(n) = recall.recall(question(rule, pair)) {
         return State { height, turn: Turn::Answer(n) };
     }
+    // two numbers that are neither 0 nor equal can be taken apart, unless one of them is no good number
     let Some(split) = take_apart(shelf, pair) else {
         return State { height, turn: Turn::Answer(0) };
     };
@@ -80,6 +81,7 @@ fn answer<S: Symbol, B: Shelf<S>, R: RecallTable>(shelf: &mut B, recall: &mut R,
 {
     let top = height - 1;
     let frame = read_frame(work, top);
+    // a pair that waits was taken apart once, and vertices do not change: no frame of a sound shelf is let go here
     let Some(split) = take_apart(shelf, frame.pair) else {
         return Ok(State { height: top, turn: Turn::Answer(0) });
     };
