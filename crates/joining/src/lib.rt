@@ -10,10 +10,9 @@ ghost use mathlib.Core.Bool.{true};
 ghost use mathlib.Core.Path.{_≡_};
 ghost use Rattle.std.specs.Results.{isErr};
 ghost use Rattle.std.specs.declared.option.Option.the-variants.{None};
-ghost use Rattle.ledger.specs.Diagrams.{Good, Sound};
 ghost use Rattle.memory.specs.declared.recall.Question.{Question};
 ghost use Rattle.joining.specs.Rules.{number-of};
-ghost use Rattle.joining.specs.Recalled.{Right, Joins};
+ghost use Rattle.joining.specs.Recalled.{Joins};
 ghost use Rattle.joining.specs.Pairs.{sum};
 ghost use Rattle.joining.specs.Walks.{Walks};
 use crate::pairs::Pair;
@@ -34,13 +33,23 @@ pub mod rule;
 mod turns;
 
 // Walks a pair to its end: its list is laid down, or does not fit, and part of it then stands after the old vertices.
-fn walk<S: Symbol, B: Shelf<S>, R: RecallTable>(shelf: &mut B, recall: &mut R, rule: Rule, pair: Pair, work: &mut [Place]) -> Result<u32, Full>
+fn walk<S: Symbol, B: Shelf<S>, R: RecallTable>(
+    shelf: &mut B,
+    recall: &mut R,
+    rule: Rule,
+    pair: Pair,
+    work: &mut [Place],
+) -> Result<u32, Full>
     requires { ⌜ sum pair ≤ length (now work) ⌝ }
-    ensures answer { λ r. ⌜ (B·Shelf .ready (now (shelf .entry)) → Walks (S·Symbol .before) (B·Shelf .capacity (now (shelf .entry))) (number-of rule) pair (B·Shelf .vertices (now (shelf .entry))) (R·RecallTable .table (now (recall .entry))) r (B·Shelf .vertices (now (shelf .exit))) (R·RecallTable .table (now (recall .exit)))) ⌝ }
+    ensures answer { λ r. ⌜ (B·Shelf .ready (now (shelf .entry)) → Walks (S·Symbol .before) (B·Shelf .capacity (now (shelf .entry))) (number-of rule) pair
+        (B·Shelf .vertices (now (shelf .entry))) (R·RecallTable .table (now (recall .entry))) r (B·Shelf .vertices (now (shelf .exit))) (R·RecallTable .table (now (recall .exit)))) ⌝ }
     ensures ready { λ _. ⌜ (B·Shelf .ready (now (shelf .entry)) → B·Shelf .ready (now (shelf .exit))) ⌝ }
     ensures size { λ _. ⌜ B·Shelf .capacity (now (shelf .exit)) ≡ B·Shelf .capacity (now (shelf .entry)) ⌝ }
 {
-    let mut state = State { height: 0, turn: Turn::Meet(pair) };
+    let mut state = State {
+        height: 0,
+        turn: Turn::Meet(pair),
+    };
     loop {
         if let Some(n) = ended(state) {
             return Ok(n);
@@ -61,11 +70,16 @@ fn undo<S: Symbol, B: Shelf<S>, R: RecallTable>(shelf: &mut B, recall: &mut R, s
 }
 
 // Lays down the list of a pair, or leaves the vertices as they were.
-fn lay_down<S: Symbol, B: Shelf<S>, R: RecallTable>(shelf: &mut B, recall: &mut R, rule: Rule, pair: Pair, work: &mut [Place]) -> Result<u32, Full>
+fn lay_down<S: Symbol, B: Shelf<S>, R: RecallTable>(
+    shelf: &mut B,
+    recall: &mut R,
+    rule: Rule,
+    pair: Pair,
+    work: &mut [Place],
+) -> Result<u32, Full>
     requires { ⌜ sum pair ≤ length (now work) ⌝ }
-    ensures answer { λ r. ⌜ (B·Shelf .ready (now (shelf .entry)) → Sound (S·Symbol .before) (B·Shelf .vertices (now (shelf .entry))) → Good (B·Shelf .vertices (now (shelf .entry))) (pair .first) → Good (B·Shelf .vertices (now (shelf .entry))) (pair .second) →
-        Right (S·Symbol .before) (B·Shelf .vertices (now (shelf .entry))) (R·RecallTable .table (now (recall .entry))) →
-        Joins (S·Symbol .before) (B·Shelf .capacity (now (shelf .entry))) (number-of rule) (pair .first) (pair .second) (B·Shelf .vertices (now (shelf .entry))) r (B·Shelf .vertices (now (shelf .exit))) (R·RecallTable .table (now (recall .exit)))) ⌝ }
+    ensures answer { λ r. ⌜ (B·Shelf .ready (now (shelf .entry)) → Joins (S·Symbol .before) (B·Shelf .capacity (now (shelf .entry))) (number-of rule) (pair .first) (pair .second)
+        (B·Shelf .vertices (now (shelf .entry))) (R·RecallTable .table (now (recall .entry))) r (B·Shelf .vertices (now (shelf .exit))) (R·RecallTable .table (now (recall .exit)))) ⌝ }
     ensures refused { λ r. ⌜ (isErr r ≡ true → (q : Question) → R·RecallTable .table (now (recall .exit)) q ≡ None) ⌝ }
     ensures ready { λ _. ⌜ (B·Shelf .ready (now (shelf .entry)) → B·Shelf .ready (now (shelf .exit))) ⌝ }
     ensures size { λ _. ⌜ B·Shelf .capacity (now (shelf .exit)) ≡ B·Shelf .capacity (now (shelf .entry)) ⌝ }
@@ -82,11 +96,17 @@ fn lay_down<S: Symbol, B: Shelf<S>, R: RecallTable>(shelf: &mut B, recall: &mut 
 
 // Lays down the join of two lists by a rule, and answers its number. Refused where it does not fit: the vertices are
 // then as they were, and the recall table is empty.
-pub fn join<S: Symbol, B: Shelf<S>, R: RecallTable>(shelf: &mut B, recall: &mut R, rule: Rule, first: u32, second: u32, work: &mut [Place]) -> Result<u32, Full>
+pub fn join<S: Symbol, B: Shelf<S>, R: RecallTable>(
+    shelf: &mut B,
+    recall: &mut R,
+    rule: Rule,
+    first: u32,
+    second: u32,
+    work: &mut [Place],
+) -> Result<u32, Full>
     requires { ⌜ first + second ≤ length (now work) ⌝ }
-    ensures answer { λ r. ⌜ (B·Shelf .ready (now (shelf .entry)) → Sound (S·Symbol .before) (B·Shelf .vertices (now (shelf .entry))) → Good (B·Shelf .vertices (now (shelf .entry))) first → Good (B·Shelf .vertices (now (shelf .entry))) second →
-        Right (S·Symbol .before) (B·Shelf .vertices (now (shelf .entry))) (R·RecallTable .table (now (recall .entry))) →
-        Joins (S·Symbol .before) (B·Shelf .capacity (now (shelf .entry))) (number-of rule) first second (B·Shelf .vertices (now (shelf .entry))) r (B·Shelf .vertices (now (shelf .exit))) (R·RecallTable .table (now (recall .exit)))) ⌝ }
+    ensures answer { λ r. ⌜ (B·Shelf .ready (now (shelf .entry)) → Joins (S·Symbol .before) (B·Shelf .capacity (now (shelf .entry))) (number-of rule) first second
+        (B·Shelf .vertices (now (shelf .entry))) (R·RecallTable .table (now (recall .entry))) r (B·Shelf .vertices (now (shelf .exit))) (R·RecallTable .table (now (recall .exit)))) ⌝ }
     ensures refused { λ r. ⌜ (isErr r ≡ true → (q : Question) → R·RecallTable .table (now (recall .exit)) q ≡ None) ⌝ }
     ensures ready { λ _. ⌜ (B·Shelf .ready (now (shelf .entry)) → B·Shelf .ready (now (shelf .exit))) ⌝ }
     ensures size { λ _. ⌜ B·Shelf .capacity (now (shelf .exit)) ≡ B·Shelf .capacity (now (shelf .entry)) ⌝ }

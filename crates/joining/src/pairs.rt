@@ -31,7 +31,11 @@ pub struct Split<S> {
 pub fn question(rule: Rule, pair: Pair) -> Question
     ensures { λ r. ⌜ r ≡ asked (number-of rule) pair ⌝ }
 {
-    Question { rule: rule.number(), first: pair.first, second: pair.second }
+    Question {
+        rule: rule.number(),
+        first: pair.first,
+        second: pair.second,
+    }
 }
 
 fn kept(keep: bool, n: u32) -> u32
@@ -67,7 +71,17 @@ fn first_alone<S: Symbol>(pair: Pair, vertex: (S, u32, u32)) -> Split<S>
     ensures { λ r. ⌜ r ≡ first-alone pair vertex ⌝ }
 {
     let (label, zero, one) = vertex;
-    Split { label, outer: Pair { first: zero, second: pair.second }, inner: Pair { first: one, second: 0 } }
+    Split {
+        label,
+        outer: Pair {
+            first: zero,
+            second: pair.second,
+        },
+        inner: Pair {
+            first: one,
+            second: 0,
+        },
+    }
 }
 
 // The head is the second list's alone.
@@ -75,11 +89,25 @@ fn second_alone<S: Symbol>(pair: Pair, vertex: (S, u32, u32)) -> Split<S>
     ensures { λ r. ⌜ r ≡ second-alone pair vertex ⌝ }
 {
     let (label, zero, one) = vertex;
-    Split { label, outer: Pair { first: pair.first, second: zero }, inner: Pair { first: 0, second: one } }
+    Split {
+        label,
+        outer: Pair {
+            first: pair.first,
+            second: zero,
+        },
+        inner: Pair {
+            first: 0,
+            second: one,
+        },
+    }
 }
 
 // Takes a pair apart by the vertices of its numbers; two terminals are not taken apart.
-fn part_by<S: Symbol>(pair: Pair, first: Option<(S, u32, u32)>, second: Option<(S, u32, u32)>) -> Option<Split<S>>
+fn part_by<S: Symbol>(
+    pair: Pair,
+    first: Option<(S, u32, u32)>,
+    second: Option<(S, u32, u32)>,
+) -> Option<Split<S>>
     ensures { λ r. ⌜ r ≡ parted (S·Symbol .before) pair first second ⌝ }
 {
     let Some(v) = first else {
@@ -97,7 +125,17 @@ fn part_by<S: Symbol>(pair: Pair, first: Option<(S, u32, u32)>, second: Option<(
     if w.0.before(v.0) {
         return Some(second_alone(pair, w));
     }
-    Some(Split { label: v.0, outer: Pair { first: v.1, second: w.1 }, inner: Pair { first: v.2, second: w.2 } })
+    Some(Split {
+        label: v.0,
+        outer: Pair {
+            first: v.1,
+            second: w.1,
+        },
+        inner: Pair {
+            first: v.2,
+            second: w.2,
+        },
+    })
 }
 
 // Takes a pair apart. The two new pairs have lower numbers, whatever lies on the shelf.

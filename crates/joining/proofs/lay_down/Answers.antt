@@ -23,9 +23,10 @@ pub returns-in-Err : need.returns-in-Err
 returns-in-Err g c =
     record {
       answer = λ ready sound first second right.
-          let w = c .in-Err .ensures tt .answer ready sound first second right in
-          ((w .0, cut-back _ (w .1 .0) _ _ _ (c .used-start .ensures) (w .1 .1) (c .undo .ensures .vertices)),
-           empty-right (g .S·Symbol .before) (g .S·Symbol·met .ordered) _ _ (c .undo .ensures .refused));
+          let w = c .in-Err .ensures tt .answer ready sound first second right in (
+            (w .0, cut-back _ (w .1 .0) _ _ _ (c .used-start .ensures) (w .1 .1) (c .undo .ensures .vertices)),
+            empty-right (g .S·Symbol .before) (g .S·Symbol·met .ordered) _ _ (c .undo .ensures .refused),
+          );
       refused = λ e. c .undo .ensures .refused;
       ready = λ h. c .undo .ensures .ready (c .walk .ensures .ready h);
       size = c .undo .ensures .size ∙ c .walk .ensures .size;
