@@ -16,9 +16,9 @@ use Rattle.ledger.specs.Diagrams.{look, parts, Good, Sound}
 use Rattle.ledger.specs.Ledger.{codes}
 use Rattle.ledger.specs.Operations.{make, join, join-blank, join-over}
 use Rattle.ledger.proofs.Draws.{terminal, codes-formed}
-use Rattle.ledger.proofs.Reading.{none-some}
+use Rattle.ledger.proofs.Reading.{none-some, some-same}
 use Rattle.memory.specs.Shelves.{LinksBelow}
-use Rattle.joining.specs.Pairs.{sum, first-alone, second-alone, both-heads, parted, apart, Falls}
+use Rattle.joining.specs.Pairs.{sum, first-alone, second-alone, both-heads, by-heads, parted, apart, Falls}
 use Rattle.joining.specs.declared.pairs.Pair.{Pair}
 use Rattle.joining.specs.declared.pairs.Split.{Split}
 
@@ -29,7 +29,7 @@ part-falls before pair None (Some w) h k = (omega arith, omega arith)
 part-falls before pair (Some v) None h k = (omega arith, omega arith)
 part-falls {S} before pair (Some v) (Some w) h k = by (before (v .0) (w .0)) (before (w .0) (v .0))
   where
-    by : (a b : Bool) → Falls pair (cond a (Some (first-alone pair v)) (cond b (Some (second-alone pair w)) (Some (both-heads v w))))
+    by : (a b : Bool) → Falls pair (Some (cond a (first-alone pair v) (cond b (second-alone pair w) (both-heads v w))))
     by true b = (omega arith, omega arith)
     by false true = (omega arith, omega arith)
     by false false = (omega arith, omega arith)
@@ -103,7 +103,7 @@ module _ {S : Type 0} (before : S → S → Bool) (order : Order before) (vs : L
         }
 
     at-both : (v w : Vertex S) → look vs (pair .first) ≡ Some v → look vs (pair .second) ≡ Some w → (s : Split S) →
-        cond (before (v .label) (w .label)) (Some (first-alone pair (parts v))) (cond (before (w .label) (v .label)) (Some (second-alone pair (parts w))) (Some (both-heads (parts v) (parts w)))) ≡ Some s → Parted pair s
+        by-heads before pair (parts v) (parts w) ≡ s → Parted pair s
     at-both v w e d s h = by (before (v .label) (w .label)) (before (w .label) (v .label)) refl refl h
       where
         begins : join before f (codes vs (pair .first)) (codes vs (pair .second)) ≡
@@ -123,12 +123,11 @@ module _ {S : Type 0} (before : S → S → Bool) (order : Order before) (vs : L
         wo = sound .formed .one-below (pair .second) w d
 
         by : (a b : Bool) → before (v .label) (w .label) ≡ a → before (w .label) (v .label) ≡ b →
-            cond a (Some (first-alone pair (parts v))) (cond b (Some (second-alone pair (parts w))) (Some (both-heads (parts v) (parts w)))) ≡ Some s → Parted pair s
+            cond a (first-alone pair (parts v)) (cond b (second-alone pair (parts w)) (both-heads (parts v) (parts w))) ≡ s → Parted pair s
         by true b p q r =
             let z = vz in
             let o = vo in
-            let is : first-alone pair (parts v) ≡ s = cc in
-            subst (Parted pair) is
+            subst (Parted pair) r
             (record {
               outer-first = omega arith;
               outer-second = second;
@@ -140,8 +139,7 @@ module _ {S : Type 0} (before : S → S → Bool) (order : Order before) (vs : L
         by false true p q r =
             let z = wz in
             let o = wo in
-            let is : second-alone pair (parts w) ≡ s = cc in
-            subst (Parted pair) is
+            subst (Parted pair) r
             (record {
               outer-first = first;
               outer-second = omega arith;
@@ -155,8 +153,7 @@ module _ {S : Type 0} (before : S → S → Bool) (order : Order before) (vs : L
             let o = vo in
             let y = wz in
             let x = wo in
-            let is : both-heads (parts v) (parts w) ≡ s = cc in
-            subst (Parted pair) is
+            subst (Parted pair) r
             (record {
               outer-first = omega arith;
               outer-second = omega arith;
@@ -180,19 +177,14 @@ module _ {S : Type 0} (before : S → S → Bool) (order : Order before) (vs : L
         by (Some v) None e d r =
             let is : first-alone pair (parts v) ≡ s = cc in
             subst (Parted pair) is (at-first v e (ap (codes vs) (one-only (pair .second) second second-some d)))
-        by (Some v) (Some w) e d r = at-both v w e d s r
+        by (Some v) (Some w) e d r = at-both v w e d s (some-same refl r)
 
     -- two numbers, none of them 0, can be taken apart
     pub parted-some : pair .first ≢ pair .second → apart before vs pair ≡ None → ⊥
     parted-some ne h = by (look vs (pair .first)) (look vs (pair .second)) refl refl h
       where
-        three : (a b : Bool) (x y z : Split S) → cond a (Some x) (cond b (Some y) (Some z)) ≡ None → ⊥
-        three true b x y z r = none-some r refl
-        three false true x y z r = none-some r refl
-        three false false x y z r = none-some r refl
-
         by : (a b : Option (Vertex S)) → look vs (pair .first) ≡ a → look vs (pair .second) ≡ b → parted before pair (mapped parts a) (mapped parts b) ≡ None → ⊥
         by None None e d r = ne (one-only (pair .first) first first-some e ∙ sym (one-only (pair .second) second second-some d))
         by None (Some w) e d r = none-some r refl
         by (Some v) None e d r = none-some r refl
-        by (Some v) (Some w) e d r = three (before (v .label) (w .label)) (before (w .label) (v .label)) _ _ _ r
+        by (Some v) (Some w) e d r = none-some r refl
