@@ -99,9 +99,10 @@ module _ {S : Type 0} (before : S → S → Bool) (order : Order before) where
 
         appended : (r : Result ℕ Full) → Appends capacity vs (vertex a low high) r ws → Couples base (make a z o) capacity vs r ws
         appended (Ok n) e =
-            let is : n ≡ suc (suc (length vs)) = omega (arith, e .2) in
-            (subst⁻¹ (λ (us : List (Vertex S)). Laid before base (make a z o) us n) (e .1) (subst⁻¹ (λ (k : ℕ). Laid before base (make a z o) (vs ++ vertex a low high ∷ []) k) is more),
-             (vertex a low high ∷ [], e .1))
+            let is : n ≡ suc (suc (length vs)) = omega (arith, e .2) in (
+              subst⁻¹ (λ (us : List (Vertex S)). Laid before base (make a z o) us n) (e .1) (subst⁻¹ (λ (k : ℕ). Laid before base (make a z o) (vs ++ vertex a low high ∷ []) k) is more),
+              (vertex a low high ∷ [], e .1),
+            )
         appended (Err full) e =
             let P = pictured before order (vs ++ vertex a low high ∷ []) (more .sound) in
             let l = sym (P .long) ∙ ap length (more .row) in

@@ -1,46 +1,31 @@
 -- More vertices: what stood before keeps its number, its vertex and its list, and a right recall table stays right.
-use mathlib.Core.Path.{_≡_, refl, sym, _∙_, ap, ap₂, subst}
-use mathlib.Core.List.{List, [], _∷_, _++_, append-assoc, append-nil}
-use mathlib.Core.Bool.{Bool, true, false}
-use mathlib.Core.Logic.{_⊎_, inl, inr}
-use Prim.Native.Nat.{ℕ, _+_, _<_, _≤_, max}
+use mathlib.Core.Path.{_≡_, refl, sym, _∙_, ap₂}
+use mathlib.Core.List.{List, _++_}
+use mathlib.Core.Bool.{Bool}
+use Prim.Native.Nat.{ℕ}
 use native.Mathlib.Omega.{arith}
-use lib.ListN.{length, length-append}
+use lib.ListN.{length-append}
 use Rattle.std.specs.Options.{mapped}
 use Rattle.std.specs.declared.option.Option.{Option}
-use Rattle.std.specs.declared.option.Option.the-variants.{Some, None}
 use Rattle.symbols.specs.Order.{Order}
 use Rattle.ledger.specs.declared.Vertex.{Vertex}
-use Rattle.ledger.specs.Lists.{Codes, begun, Proper, Member}
+use Rattle.ledger.specs.Lists.{Proper, Member}
 use Rattle.ledger.specs.Diagrams.{look, parts, Good, Sound}
-use Rattle.ledger.specs.Ledger.{list-in, draw, lists, codes}
+use Rattle.ledger.specs.Ledger.{codes}
 use Rattle.ledger.specs.Operations.{has, takes, join}
 use Rattle.ledger.proofs.Canon.{Kind, is-0, is-1, is-vertex, kind}
-use Rattle.ledger.proofs.Drawn.{draw-append, pictured, look-front, codes-proper}
+use Rattle.ledger.proofs.Drawn.{look-front, codes-proper}
+use Rattle.ledger.proofs.Draws.{codes-front}
 use Rattle.ledger.proofs.Joins.{join-right}
 use Rattle.ledger.proofs.Orders.{has-in, in-has}
-use Rattle.ledger.proofs.Rows.{list-front}
 use Rattle.ledger.proofs.Sets.{proper-same}
 use Rattle.memory.specs.declared.recall.Question.{Question}
 use Rattle.joining.specs.Recalled.{Right, RightEntry}
 use Rattle.joining.specs.Pairs.{joint, Settled, parted, apart}
 use Rattle.joining.specs.declared.pairs.Pair.{Pair}
 
-draw-adds : {S : Type 0} (row : List (Codes S)) (vs : List (Vertex S)) → (more : List (Codes S)) × (draw row vs ≡ row ++ more)
-draw-adds row [] = ([], sym (append-nil row))
-draw-adds {S} row (v ∷ vs) =
-    let x : Codes S = begun (v .label) (list-in row (v .zero)) (list-in row (v .one)) in
-    let r = draw-adds (row ++ x ∷ []) vs in
-    (x ∷ r .0, r .1 ∙ append-assoc row (x ∷ []) (r .0))
-
 module _ {S : Type 0} (before : S → S → Bool) (order : Order before) where
-  module _ (vs more : List (Vertex S)) (sound : Sound before vs) where
-    pub codes-front : (n : ℕ) → Good vs n → codes (vs ++ more) n ≡ codes vs n
-    codes-front n good =
-        let d = draw-adds (lists vs) more in
-        let l = pictured before order vs sound .long in
-        ap (λ r. list-in r n) (draw-append [] vs more ∙ d .1) ∙ list-front before order (lists vs) (d .0) n (omega arith)
-
+  module _ (vs more : List (Vertex S)) where
     look-good : (n : ℕ) → Good vs n → look (vs ++ more) n ≡ look vs n
     look-good n good = by (kind vs n good)
       where
@@ -57,7 +42,7 @@ module _ {S : Type 0} (before : S → S → Bool) (order : Order before) where
         ap₂ (λ (a b : Option (Vertex S)). parted before pair (mapped parts a) (mapped parts b)) (look-good (pair .first) first) (look-good (pair .second) second)
 
     pub joint-front : (rule : ℕ) (pair : Pair) → Good vs (pair .first) → Good vs (pair .second) → joint before (vs ++ more) rule pair ≡ joint before vs rule pair
-    joint-front rule pair first second = ap₂ (join before (takes rule)) (codes-front (pair .first) first) (codes-front (pair .second) second)
+    joint-front rule pair first second = ap₂ (join before (takes rule)) (codes-front before order vs more (pair .first) first) (codes-front before order vs more (pair .second) second)
 
     entry-front : (q : Question) (n : ℕ) → RightEntry before vs q n → RightEntry before (vs ++ more) q n
     entry-front q n e =
@@ -65,7 +50,7 @@ module _ {S : Type 0} (before : S → S → Bool) (order : Order before) where
           first = good-front (q .first) (e .first);
           second = good-front (q .second) (e .second);
           answer = good-front n (e .answer);
-          is = codes-front n (e .answer) ∙ e .is ∙ ap₂ (join before (takes (q .rule))) (sym (codes-front (q .first) (e .first))) (sym (codes-front (q .second) (e .second)));
+          is = codes-front before order vs more n (e .answer) ∙ e .is ∙ ap₂ (join before (takes (q .rule))) (sym (codes-front before order vs more (q .first) (e .first))) (sym (codes-front before order vs more (q .second) (e .second)));
         }
 
     pub right-front : (table : Question → Option ℕ) → Right before vs table → Right before (vs ++ more) table

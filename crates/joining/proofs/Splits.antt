@@ -15,12 +15,10 @@ use Rattle.ledger.specs.Lists.{Codes, none, blank, begun}
 use Rattle.ledger.specs.Diagrams.{look, parts, Good, Sound}
 use Rattle.ledger.specs.Ledger.{codes}
 use Rattle.ledger.specs.Operations.{make, join, join-blank, join-over}
-use Rattle.ledger.proofs.Canon.{Kind, is-0, is-1, is-vertex, kind}
-use Rattle.ledger.proofs.Drawn.{Pictured, pictured}
-use Rattle.ledger.proofs.Reading.{none-some}
-use Rattle.ledger.proofs.Rows.{both-ways}
+use Rattle.ledger.proofs.Draws.{terminal, codes-formed}
+use Rattle.ledger.proofs.Reading.{none-some, some-same}
 use Rattle.memory.specs.Shelves.{LinksBelow}
-use Rattle.joining.specs.Pairs.{sum, first-alone, second-alone, both-heads, parted, apart, Falls}
+use Rattle.joining.specs.Pairs.{sum, first-alone, second-alone, both-heads, by-heads, parted, apart, Falls}
 use Rattle.joining.specs.declared.pairs.Pair.{Pair}
 use Rattle.joining.specs.declared.pairs.Split.{Split}
 
@@ -31,7 +29,7 @@ part-falls before pair None (Some w) h k = (omega arith, omega arith)
 part-falls before pair (Some v) None h k = (omega arith, omega arith)
 part-falls {S} before pair (Some v) (Some w) h k = by (before (v .0) (w .0)) (before (w .0) (v .0))
   where
-    by : (a b : Bool) → Falls pair (cond a (Some (first-alone pair v)) (cond b (Some (second-alone pair w)) (Some (both-heads v w))))
+    by : (a b : Bool) → Falls pair (Some (cond a (first-alone pair v) (cond b (second-alone pair w) (both-heads v w))))
     by true b = (omega arith, omega arith)
     by false true = (omega arith, omega arith)
     by false false = (omega arith, omega arith)
@@ -66,10 +64,6 @@ module _ {S : Type 0} (before : S → S → Bool) (f : Bool → Bool → Bool) w
   join-first-blank a z o = ap (make a (join before f z blank)) (sym (join-none o))
 
 module _ {S : Type 0} (before : S → S → Bool) (order : Order before) (vs : List (Vertex S)) (sound : Sound before vs) (f : Bool → Bool → Bool) where
-  -- what a pair stands for
-  stands : Pair → Codes S
-  stands pair = join before f (codes vs (pair .first)) (codes vs (pair .second))
-
   pub record Parted (pair : Pair) (s : Split S) : Type 0 where
     pub outer-first : Good vs (s .outer .first)
     pub outer-second : Good vs (s .outer .second)
@@ -79,7 +73,7 @@ module _ {S : Type 0} (before : S → S → Bool) (order : Order before) (vs : L
         make (s .label) (join before f (codes vs (s .outer .first)) (codes vs (s .outer .second))) (join before f (codes vs (s .inner .first)) (codes vs (s .inner .second)))
 
   here : (n : ℕ) (v : Vertex S) → look vs n ≡ Some v → codes vs n ≡ begun (v .label) (codes vs (v .zero)) (codes vs (v .one))
-  here = pictured before order vs sound .unfolds
+  here = codes-formed before order vs (sound .formed)
 
   module _ (pair : Pair) (first : Good vs (pair .first)) (second : Good vs (pair .second)) (first-some : 0 < pair .first) (second-some : 0 < pair .second) where
     at-first : (v : Vertex S) → look vs (pair .first) ≡ Some v → codes vs (pair .second) ≡ blank → Parted pair (first-alone pair (parts v))
@@ -109,7 +103,7 @@ module _ {S : Type 0} (before : S → S → Bool) (order : Order before) (vs : L
         }
 
     at-both : (v w : Vertex S) → look vs (pair .first) ≡ Some v → look vs (pair .second) ≡ Some w → (s : Split S) →
-        cond (before (v .label) (w .label)) (Some (first-alone pair (parts v))) (cond (before (w .label) (v .label)) (Some (second-alone pair (parts w))) (Some (both-heads (parts v) (parts w)))) ≡ Some s → Parted pair s
+        by-heads before pair (parts v) (parts w) ≡ s → Parted pair s
     at-both v w e d s h = by (before (v .label) (w .label)) (before (w .label) (v .label)) refl refl h
       where
         begins : join before f (codes vs (pair .first)) (codes vs (pair .second)) ≡
@@ -129,12 +123,11 @@ module _ {S : Type 0} (before : S → S → Bool) (order : Order before) (vs : L
         wo = sound .formed .one-below (pair .second) w d
 
         by : (a b : Bool) → before (v .label) (w .label) ≡ a → before (w .label) (v .label) ≡ b →
-            cond a (Some (first-alone pair (parts v))) (cond b (Some (second-alone pair (parts w))) (Some (both-heads (parts v) (parts w)))) ≡ Some s → Parted pair s
+            cond a (first-alone pair (parts v)) (cond b (second-alone pair (parts w)) (both-heads (parts v) (parts w))) ≡ s → Parted pair s
         by true b p q r =
             let z = vz in
             let o = vo in
-            let is : first-alone pair (parts v) ≡ s = cc in
-            subst (Parted pair) is
+            subst (Parted pair) r
             (record {
               outer-first = omega arith;
               outer-second = second;
@@ -146,8 +139,7 @@ module _ {S : Type 0} (before : S → S → Bool) (order : Order before) (vs : L
         by false true p q r =
             let z = wz in
             let o = wo in
-            let is : second-alone pair (parts w) ≡ s = cc in
-            subst (Parted pair) is
+            subst (Parted pair) r
             (record {
               outer-first = first;
               outer-second = omega arith;
@@ -161,8 +153,7 @@ module _ {S : Type 0} (before : S → S → Bool) (order : Order before) (vs : L
             let o = vo in
             let y = wz in
             let x = wo in
-            let is : both-heads (parts v) (parts w) ≡ s = cc in
-            subst (Parted pair) is
+            subst (Parted pair) r
             (record {
               outer-first = omega arith;
               outer-second = omega arith;
@@ -173,12 +164,7 @@ module _ {S : Type 0} (before : S → S → Bool) (order : Order before) (vs : L
 
     -- a number that is not 0 and shows no vertex is 1
     one-only : (n : ℕ) → Good vs n → 0 < n → look vs n ≡ None → n ≡ 1
-    one-only n good some e = by (kind vs n good)
-      where
-        by : Kind vs n → n ≡ 1
-        by (is-0 p) = absurd (omega arith)
-        by (is-1 p) = p
-        by (is-vertex v p) = absurd (none-some e p)
+    one-only n good some e = elim (terminal vs n good e) [ inl p ↦ absurd (omega arith) | inr p ↦ p ]
 
     pub parted-is : (s : Split S) → apart before vs pair ≡ Some s → Parted pair s
     parted-is s h = by (look vs (pair .first)) (look vs (pair .second)) refl refl h
@@ -191,19 +177,14 @@ module _ {S : Type 0} (before : S → S → Bool) (order : Order before) (vs : L
         by (Some v) None e d r =
             let is : first-alone pair (parts v) ≡ s = cc in
             subst (Parted pair) is (at-first v e (ap (codes vs) (one-only (pair .second) second second-some d)))
-        by (Some v) (Some w) e d r = at-both v w e d s r
+        by (Some v) (Some w) e d r = at-both v w e d s (some-same refl r)
 
     -- two numbers, none of them 0, can be taken apart
     pub parted-some : pair .first ≢ pair .second → apart before vs pair ≡ None → ⊥
     parted-some ne h = by (look vs (pair .first)) (look vs (pair .second)) refl refl h
       where
-        three : (a b : Bool) (x y z : Split S) → cond a (Some x) (cond b (Some y) (Some z)) ≡ None → ⊥
-        three true b x y z r = none-some r refl
-        three false true x y z r = none-some r refl
-        three false false x y z r = none-some r refl
-
         by : (a b : Option (Vertex S)) → look vs (pair .first) ≡ a → look vs (pair .second) ≡ b → parted before pair (mapped parts a) (mapped parts b) ≡ None → ⊥
         by None None e d r = ne (one-only (pair .first) first first-some e ∙ sym (one-only (pair .second) second second-some d))
         by None (Some w) e d r = none-some r refl
         by (Some v) None e d r = none-some r refl
-        by (Some v) (Some w) e d r = three (before (v .label) (w .label)) (before (w .label) (v .label)) _ _ _ r
+        by (Some v) (Some w) e d r = none-some r refl

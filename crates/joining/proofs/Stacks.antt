@@ -48,7 +48,7 @@ module _ {S : Type 0} (before : S → S → Bool) (order : Order before) (old : 
   stack-push places n f vs t h s =
       rw add-one
       (subst⁻¹ (Over (set places n (place-of f)) n vs t) (frame-same places n f h)
-       (s .0, stack-set places n (place-of f) n (s .0 .base) (joint before old rule (f .pair)) (omega arith) (s .1)))
+      (s .0, stack-set places n (place-of f) n (s .0 .base) (joint before old rule (f .pair)) (omega arith) (s .1)))
 
   pub stack-top : (places : List Place) (height : ℕ) (vs : List (Vertex S)) (t : Codes S) → 0 < height → Stack before old rule goal places height vs t →
       Over places (height - 1) vs t (frame-at places (height - 1))

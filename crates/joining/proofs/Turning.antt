@@ -37,7 +37,7 @@ use Rattle.joining.specs.declared.turns.Turn.{Turn}
 use Rattle.joining.specs.declared.turns.Turn.the-variants.{Meet, Answer}
 use Rattle.joining.specs.declared.turns.State.{State}
 use Rattle.joining.proofs.Splits.{Parted, parted-is, parted-some}
-use Rattle.joining.proofs.Growing.{codes-front, good-front, apart-front, joint-front, right-front, joint-proper, settled-good, settled-is}
+use Rattle.joining.proofs.Growing.{good-front, apart-front, joint-front, right-front, joint-proper, settled-good, settled-is}
 use Rattle.joining.proofs.Coupling.{Couples, couples}
 use Rattle.joining.proofs.Stacks.{Over, stack-push, stack-top, held-is, stack-longer}
 
@@ -48,16 +48,13 @@ module _ {S : Type 0} (before : S → S → Bool) (order : Order before) (old : 
     old-sound = sound-front before order old more (subst (Sound before) extends sound)
 
     old-good : (n : ℕ) → Good old n → Good vs n
-    old-good n good = subst⁻¹ (λ (us : List (Vertex S)). Good us n) extends (good-front before order old more old-sound n good)
-
-    old-codes : (n : ℕ) → Good old n → codes vs n ≡ codes old n
-    old-codes n good = ap (λ (us : List (Vertex S)). codes us n) extends ∙ codes-front before order old more old-sound n good
+    old-good n good = subst⁻¹ (λ (us : List (Vertex S)). Good us n) extends (good-front before order old more n good)
 
     old-joint : (pair : Pair) → Good old (pair .first) → Good old (pair .second) → joint before vs rule pair ≡ joint before old rule pair
-    old-joint pair first second = ap (λ (us : List (Vertex S)). joint before us rule pair) extends ∙ joint-front before order old more old-sound rule pair first second
+    old-joint pair first second = ap (λ (us : List (Vertex S)). joint before us rule pair) extends ∙ joint-front before order old more rule pair first second
 
     old-apart : (pair : Pair) → Good old (pair .first) → Good old (pair .second) → apart before vs pair ≡ apart before old pair
-    old-apart pair first second = ap (λ (us : List (Vertex S)). apart before us pair) extends ∙ apart-front before order old more old-sound pair first second
+    old-apart pair first second = ap (λ (us : List (Vertex S)). apart before us pair) extends ∙ apart-front before order old more pair first second
 
   -- a pair is met
   module _ (pair : Pair) (R : Running before old rule goal vs table places (record { height = height; turn = Meet pair })) where
@@ -105,19 +102,19 @@ module _ {S : Type 0} (before : S → S → Bool) (order : Order before) (old : 
       turn-push s e room =
           let is = sym (old-apart (R .sound) (R .more) (R .extends) pair first second) ∙ e in
           let p : Parted before order old (old-sound (R .sound) (R .more) (R .extends)) (takes rule) pair s =
-                parted-is before order old (old-sound (R .sound) (R .more) (R .extends)) (takes rule) pair first second first-some second-some s is in
+          parted-is before order old (old-sound (R .sound) (R .more) (R .extends)) (takes rule) pair first second first-some second-some s is in
           let f : Frame = record { pair = pair; stage = Outer } in
           let h : Held before old rule f vs (joint before old rule (s .outer)) = record {
-                first = first;
-                second = second;
-                first-some = first-some;
-                second-some = second-some;
-                base = vs;
-                sound = R .sound;
-                part = s;
-                is = is;
-                waits = (refl, refl);
-              } in
+            first = first;
+            second = second;
+            first-some = first-some;
+            second-some = second-some;
+            base = vs;
+            sound = R .sound;
+            part = s;
+            is = is;
+            waits = (refl, refl);
+          } in
           record {
             sound = R .sound;
             more = R .more;
@@ -163,22 +160,22 @@ module _ {S : Type 0} (before : S → S → Bool) (order : Order before) (old : 
           Running before old rule goal vs table (set places (height - 1) (place-of (record { pair = f .pair; stage = Inner n }))) (record { height = height; turn = Meet (s .inner) })
       turn-inner stage room =
           let w : (R .stands .0 ≡ over .0 .base) × (R .stands .1 ≡ joint before old rule (over .0 .part .outer)) =
-                subst (λ (x : Stage). Waits before old rule (over .0 .part) (over .0 .base) x (R .stands .0) (R .stands .1)) stage (over .0 .waits) in
+          subst (λ (x : Stage). Waits before old rule (over .0 .part) (over .0 .base) x (R .stands .0) (R .stands .1)) stage (over .0 .waits) in
           let t-is : R .stands .1 ≡ joint before old rule (s .outer) = w .1 ∙ ap (λ (x : Split S). joint before old rule (x .outer)) part-is in
           let laid : Laid before (over .0 .base) (joint before old rule (s .outer)) vs n =
-                subst (λ (us : List (Vertex S)). Laid before us (joint before old rule (s .outer)) vs n) (w .0) (subst (λ (t : Codes S). Laid before (R .stands .0) t vs n) t-is come) in
+          subst (λ (us : List (Vertex S)). Laid before us (joint before old rule (s .outer)) vs n) (w .0) (subst (λ (t : Codes S). Laid before (R .stands .0) t vs n) t-is come) in
           let g : Frame = record { pair = f .pair; stage = Inner n } in
           let h : Held before old rule g vs (joint before old rule (s .inner)) = record {
-                first = over .0 .first;
-                second = over .0 .second;
-                first-some = over .0 .first-some;
-                second-some = over .0 .second-some;
-                base = over .0 .base;
-                sound = over .0 .sound;
-                part = s;
-                is = sym same-apart ∙ e;
-                waits = (laid, refl);
-              } in
+            first = over .0 .first;
+            second = over .0 .second;
+            first-some = over .0 .first-some;
+            second-some = over .0 .second-some;
+            base = over .0 .base;
+            sound = over .0 .sound;
+            part = s;
+            is = sym same-apart ∙ e;
+            waits = (laid, refl);
+          } in
           let back : height - 1 + 1 ≡ height = omega arith in
           record {
             sound = R .sound;
@@ -189,7 +186,7 @@ module _ {S : Type 0} (before : S → S → Bool) (order : Order before) (old : 
               parted .inner-first,
               parted .inner-second,
               subst (λ (k : ℕ). Stack before old rule goal (set places (height - 1) (place-of g)) k vs (joint before old rule (s .inner))) back
-              (stack-push before order old rule goal places (height - 1) g vs (joint before old rule (s .inner)) room (h, over .1)),
+                  (stack-push before order old rule goal places (height - 1) g vs (joint before old rule (s .inner)) room (h, over .1)),
             );
           }
 
@@ -201,13 +198,13 @@ module _ {S : Type 0} (before : S → S → Bool) (order : Order before) (old : 
         outcome : (r : Result ℕ Full) → Coupled capacity vs (s .label) low n r ws → Couples before order (over .0 .base) (joint before old rule (f .pair)) capacity vs r ws
         outcome r c =
             let w : Laid before (over .0 .base) (joint before old rule (over .0 .part .outer)) (R .stands .0) low × (R .stands .1 ≡ joint before old rule (over .0 .part .inner)) =
-                  subst (λ (x : Stage). Waits before old rule (over .0 .part) (over .0 .base) x (R .stands .0) (R .stands .1)) stage (over .0 .waits) in
+            subst (λ (x : Stage). Waits before old rule (over .0 .part) (over .0 .base) x (R .stands .0) (R .stands .1)) stage (over .0 .waits) in
             let outer : Laid before (over .0 .base) (joint before old rule (s .outer)) (R .stands .0) low =
-                  subst (λ (x : Split S). Laid before (over .0 .base) (joint before old rule (x .outer)) (R .stands .0) low) part-is (w .0) in
+            subst (λ (x : Split S). Laid before (over .0 .base) (joint before old rule (x .outer)) (R .stands .0) low) part-is (w .0) in
             let inner : Laid before (R .stands .0) (joint before old rule (s .inner)) vs n =
-                  subst (λ (t : Codes S). Laid before (R .stands .0) t vs n) (w .1 ∙ ap (λ (x : Split S). joint before old rule (x .inner)) part-is) come in
+            subst (λ (t : Codes S). Laid before (R .stands .0) t vs n) (w .1 ∙ ap (λ (x : Split S). joint before old rule (x .inner)) part-is) come in
             let proper : Proper before (make (s .label) (joint before old rule (s .outer)) (joint before old rule (s .inner))) =
-                  subst (Proper before) made-is (joint-proper before order old (old-sound (R .sound) (R .more) (R .extends)) rule (f .pair) (over .0 .first) (over .0 .second)) in
+            subst (Proper before) made-is (joint-proper before order old (old-sound (R .sound) (R .more) (R .extends)) rule (f .pair) (over .0 .first) (over .0 .second)) in
             subst⁻¹ (λ (t : Codes S). Couples before order (over .0 .base) t capacity vs r ws) made-is
             (couples before order (over .0 .base) (R .stands .0) vs (over .0 .sound) (joint before old rule (s .outer)) (joint before old rule (s .inner)) low n outer inner (s .label) proper capacity ws r c)
 
@@ -224,13 +221,13 @@ module _ {S : Type 0} (before : S → S → Bool) (order : Order before) (old : 
             let o = outcome (Ok m) c in
             let laid : Laid before (over .0 .base) (joint before old rule (f .pair)) ws m = o .0 in
             let ext : ws ≡ old ++ (R .more ++ o .1 .0) = o .1 .1 ∙ ap (λ (us : List (Vertex S)). us ++ o .1 .0) (R .extends) ∙ append-assoc old (R .more) (o .1 .0) in
-            let right : Right before ws table = subst⁻¹ (λ (us : List (Vertex S)). Right before us table) (o .1 .1) (right-front before order vs (o .1 .0) (R .sound) table (R .right)) in
+            let right : Right before ws table = subst⁻¹ (λ (us : List (Vertex S)). Right before us table) (o .1 .1) (right-front before order vs (o .1 .0) table (R .right)) in
             let mine : RightEntry before ws (asked rule (f .pair)) m = record {
-                  first = o-good (laid .sound) (R .more ++ o .1 .0) ext (f .pair .first) (over .0 .first);
-                  second = o-good (laid .sound) (R .more ++ o .1 .0) ext (f .pair .second) (over .0 .second);
-                  answer = laid .good;
-                  is = laid .is ∙ sym (o-joint (laid .sound) (R .more ++ o .1 .0) ext (f .pair) (over .0 .first) (over .0 .second));
-                } in
+              first = o-good (laid .sound) (R .more ++ o .1 .0) ext (f .pair .first) (over .0 .first);
+              second = o-good (laid .sound) (R .more ++ o .1 .0) ext (f .pair .second) (over .0 .second);
+              answer = laid .good;
+              is = laid .is ∙ sym (o-joint (laid .sound) (R .more ++ o .1 .0) ext (f .pair) (over .0 .first) (over .0 .second));
+            } in
             record {
               sound = laid .sound;
               more = R .more ++ o .1 .0;
@@ -240,11 +237,11 @@ module _ {S : Type 0} (before : S → S → Bool) (order : Order before) (old : 
             }
           where
             o-good : Sound before ws → (more : List (Vertex S)) → ws ≡ old ++ more → (k : ℕ) → Good old k → Good ws k
-            o-good sw more x k g = subst⁻¹ (λ (us : List (Vertex S)). Good us k) x (good-front before order old more (sound-front before order old more (subst (Sound before) x sw)) k g)
+            o-good sw more x k g = subst⁻¹ (λ (us : List (Vertex S)). Good us k) x (good-front before order old more k g)
 
             o-joint : Sound before ws → (more : List (Vertex S)) → ws ≡ old ++ more → (pair : Pair) → Good old (pair .first) → Good old (pair .second) → joint before ws rule pair ≡ joint before old rule pair
             o-joint sw more x pair gf gs =
-                ap (λ (us : List (Vertex S)). joint before us rule pair) x ∙ joint-front before order old more (sound-front before order old more (subst (Sound before) x sw)) rule pair gf gs
+                ap (λ (us : List (Vertex S)). joint before us rule pair) x ∙ joint-front before order old more rule pair gf gs
 
             entry : (q : Question) (k : ℕ) → (table q ≡ Some k → RightEntry before ws q k) → RightEntry before ws (asked rule (f .pair)) m →
                 (table q ≡ Some k) ⊎ ((q ≡ asked rule (f .pair)) × (k ≡ m)) → RightEntry before ws q k

@@ -50,13 +50,15 @@ abbrev pub both-heads : {S : Type 0} → S × ℕ × ℕ → S × ℕ × ℕ →
 both-heads v w =
     record { label = v .0; outer = record { first = v .1; second = w .1 }; inner = record { first = v .2; second = w .2 } }
 
+abbrev pub by-heads : {S : Type 0} → (S → S → Bool) → Pair → S × ℕ × ℕ → S × ℕ × ℕ → Split S
+by-heads before pair v w =
+    cond (before (v .0) (w .0)) (first-alone pair v) (cond (before (w .0) (v .0)) (second-alone pair w) (both-heads v w))
+
 abbrev pub parted : {S : Type 0} → (S → S → Bool) → Pair → Option (S × ℕ × ℕ) → Option (S × ℕ × ℕ) → Option (Split S)
 parted before pair None None = None
 parted before pair None (Some w) = Some (second-alone pair w)
 parted before pair (Some v) None = Some (first-alone pair v)
-parted before pair (Some v) (Some w) =
-    cond (before (v .0) (w .0)) (Some (first-alone pair v))
-    (cond (before (w .0) (v .0)) (Some (second-alone pair w)) (Some (both-heads v w)))
+parted before pair (Some v) (Some w) = Some (by-heads before pair v w)
 
 abbrev pub apart : {S : Type 0} → (S → S → Bool) → List (Vertex S) → Pair → Option (Split S)
 apart before vs pair = parted before pair (mapped parts (look vs (pair .first))) (mapped parts (look vs (pair .second)))

@@ -22,8 +22,18 @@ pub struct Frame {
 fn from_place(place: Place) -> Frame
     ensures { λ r. ⌜ r ≡ frame-of place ⌝ }
 {
-    let stage = if place.state == 0 { Stage::Outer } else { Stage::Inner(place.number) };
-    Frame { pair: Pair { first: place.list, second: place.other }, stage }
+    let stage = if place.state == 0 {
+        Stage::Outer
+    } else {
+        Stage::Inner(place.number)
+    };
+    Frame {
+        pair: Pair {
+            first: place.list,
+            second: place.other,
+        },
+        stage,
+    }
 }
 
 fn to_place(frame: Frame) -> Place
@@ -31,8 +41,20 @@ fn to_place(frame: Frame) -> Place
 {
     let Pair { first, second } = frame.pair;
     match frame.stage {
-        Stage::Outer => Place { state: 0, list: first, other: second, number: 0, count: 0 },
-        Stage::Inner(zero) => Place { state: 1, list: first, other: second, number: zero, count: 0 },
+        Stage::Outer => Place {
+            state: 0,
+            list: first,
+            other: second,
+            number: 0,
+            count: 0,
+        },
+        Stage::Inner(zero) => Place {
+            state: 1,
+            list: first,
+            other: second,
+            number: zero,
+            count: 0,
+        },
     }
 }
 

@@ -6,7 +6,7 @@ ghost use mathlib.Core.Path.{_≡_};
 ghost use Rattle.std.specs.declared.option.Option.{Option};
 ghost use Rattle.ledger.specs.Diagrams.{Formed};
 ghost use Rattle.joining.specs.Rules.{number-of};
-ghost use Rattle.joining.specs.Pairs.{Settles, Falls, parted, apart, asked, first-alone, second-alone};
+ghost use Rattle.joining.specs.Pairs.{Settles, Falls, parted, apart, asked, first-alone, second-alone, by-heads};
 use crate::rule::Rule;
 use memory::reading::read_vertex;
 use memory::recall::Question;
@@ -31,7 +31,12 @@ pub struct Split<S> {
 pub fn question(rule: Rule, pair: Pair) -> Question
     ensures { λ r. ⌜ r ≡ asked (number-of rule) pair ⌝ }
 {
-    Question { rule: rule.number(), first: pair.first, second: pair.second }
+    let Pair { first, second } = pair;
+    Question {
+        rule: rule.number(),
+        first,
+        second,
+    }
 }
 
 fn kept(keep: bool, n: u32) -> u32
@@ -67,7 +72,17 @@ fn first_alone<S: Symbol>(pair: Pair, vertex: (S, u32, u32)) -> Split<S>
     ensures { λ r. ⌜ r ≡ first-alone pair vertex ⌝ }
 {
     let (label, zero, one) = vertex;
-    Split { label, outer: Pair { first: zero, second: pair.second }, inner: Pair { first: one, second: 0 } }
+    Split {
+        label,
+        outer: Pair {
+            first: zero,
+            second: pair.second,
+        },
+        inner: Pair {
+            first: one,
+            second: 0,
+        },
+    }
 }
 
 // The head is the second list's alone.
@@ -75,29 +90,56 @@ fn second_alone<S: Symbol>(pair: Pair, vertex: (S, u32, u32)) -> Split<S>
     ensures { λ r. ⌜ r ≡ second-alone pair vertex ⌝ }
 {
     let (label, zero, one) = vertex;
-    Split { label, outer: Pair { first: pair.first, second: zero }, inner: Pair { first: 0, second: one } }
+    Split {
+        label,
+        outer: Pair {
+            first: pair.first,
+            second: zero,
+        },
+        inner: Pair {
+            first: 0,
+            second: one,
+        },
+    }
+}
+
+// The head that comes first, or is both lists'.
+fn by_heads<S: Symbol>(pair: Pair, first: (S, u32, u32), second: (S, u32, u32)) -> Split<S>
+    ensures { λ r. ⌜ r ≡ by-heads (S·Symbol .before) pair first second ⌝ }
+{
+    if first.0.before(second.0) {
+        return first_alone(pair, first);
+    }
+    if second.0.before(first.0) {
+        return second_alone(pair, second);
+    }
+    Split {
+        label: first.0,
+        outer: Pair {
+            first: first.1,
+            second: second.1,
+        },
+        inner: Pair {
+            first: first.2,
+            second: second.2,
+        },
+    }
 }
 
 // Takes a pair apart by the vertices of its numbers; two terminals are not taken apart.
-fn part_by<S: Symbol>(pair: Pair, first: Option<(S, u32, u32)>, second: Option<(S, u32, u32)>) -> Option<Split<S>>
+fn part_by<S: Symbol>(
+    pair: Pair,
+    first: Option<(S, u32, u32)>,
+    second: Option<(S, u32, u32)>,
+) -> Option<Split<S>>
     ensures { λ r. ⌜ r ≡ parted (S·Symbol .before) pair first second ⌝ }
 {
-    let Some(v) = first else {
-        let Some(w) = second else {
-            return None;
-        };
-        return Some(second_alone(pair, w));
-    };
-    let Some(w) = second else {
-        return Some(first_alone(pair, v));
-    };
-    if v.0.before(w.0) {
-        return Some(first_alone(pair, v));
+    match (first, second) {
+        (None, None) => None,
+        (None, Some(w)) => Some(second_alone(pair, w)),
+        (Some(v), None) => Some(first_alone(pair, v)),
+        (Some(v), Some(w)) => Some(by_heads(pair, v, w)),
     }
-    if w.0.before(v.0) {
-        return Some(second_alone(pair, w));
-    }
-    Some(Split { label: v.0, outer: Pair { first: v.1, second: w.1 }, inner: Pair { first: v.2, second: w.2 } })
 }
 
 // Takes a pair apart. The two new pairs have lower numbers, whatever lies on the shelf.

@@ -20,7 +20,11 @@ impl Rule {
         if n > 7 {
             return None;
         }
-        Some(Rule { first: n % 2 == 1, second: n / 2 % 2 == 1, both: n / 4 == 1 })
+        Some(Rule {
+            first: n % 2 == 1,
+            second: n / 2 % 2 == 1,
+            both: n / 4 == 1,
+        })
     }
 
     pub fn number(self) -> u8

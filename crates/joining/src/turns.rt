@@ -37,23 +37,50 @@ pub struct State {
 }
 
 // A turn at a pair: its number, or a frame for it and its outer pair.
-fn meet<S: Symbol, B: Shelf<S>, R: RecallTable>(shelf: &B, recall: &R, rule: Rule, work: &mut [Place], height: usize, pair: Pair) -> State
+fn meet<S: Symbol, B: Shelf<S>, R: RecallTable>(
+    shelf: &B,
+    recall: &R,
+    rule: Rule,
+    work: &mut [Place],
+    height: usize,
+    pair: Pair,
+) -> State
     requires { ⌜ Fits (now work) (record { height = height; turn = Turn.Meet pair }) ⌝ }
     ensures fits { λ r. ⌜ Fits (now (work .exit)) r ⌝ }
     ensures falls { λ r. ⌜ cost (now (work .exit)) r < cost (now (work .entry)) (record { height = height; turn = Turn.Meet pair }) ⌝ }
     ensures goes { λ r. ⌜ Goes (S·Symbol .before) (number-of rule) (B·Shelf .vertices (now (shelf .entry))) (R·RecallTable .table (now (recall .entry))) (now (work .entry)) (record { height = height; turn = Turn.Meet pair }) (now (work .exit)) r ⌝ }
 {
     if let Some(n) = shortcut(rule, pair) {
-        return State { height, turn: Turn::Answer(n) };
+        return State {
+            height,
+            turn: Turn::Answer(n),
+        };
     }
     if let Some(n) = recall.recall(question(rule, pair)) {
-        return State { height, turn: Turn::Answer(n) };
+        return State {
+            height,
+            turn: Turn::Answer(n),
+        };
     }
+    // two numbers that are neither 0 nor equal can be taken apart, unless one of them is no good number
     let Some(split) = take_apart(shelf, pair) else {
-        return State { height, turn: Turn::Answer(0) };
+        return State {
+            height,
+            turn: Turn::Answer(0),
+        };
     };
-    write_frame(work, height, Frame { pair, stage: Stage::Outer });
-    State { height: height + 1, turn: Turn::Meet(split.outer) }
+    write_frame(
+        work,
+        height,
+        Frame {
+            pair,
+            stage: Stage::Outer,
+        },
+    );
+    State {
+        height: height + 1,
+        turn: Turn::Meet(split.outer),
+    }
 }
 
 // The number of the vertex with these links, found or appended; the zero link's where the one link is 0.
@@ -69,7 +96,14 @@ fn couple<S: Symbol, B: Shelf<S>>(shelf: &mut B, label: S, zero: u32, one: u32) 
 }
 
 // A turn at a number that comes back to the top frame: on to its inner pair, or the frame's own number.
-fn answer<S: Symbol, B: Shelf<S>, R: RecallTable>(shelf: &mut B, recall: &mut R, rule: Rule, work: &mut [Place], height: usize, n: u32) -> Result<State, Full>
+fn answer<S: Symbol, B: Shelf<S>, R: RecallTable>(
+    shelf: &mut B,
+    recall: &mut R,
+    rule: Rule,
+    work: &mut [Place],
+    height: usize,
+    n: u32,
+) -> Result<State, Full>
     requires fits { ⌜ Fits (now work) (record { height = height; turn = Turn.Answer n }) ⌝ }
     requires some { ⌜ 0 < height ⌝ }
     ensures falls { λ r. ⌜ Comes-down (now (work .entry)) (record { height = height; turn = Turn.Answer n }) (now (work .exit)) r ⌝ }
@@ -80,18 +114,35 @@ fn answer<S: Symbol, B: Shelf<S>, R: RecallTable>(shelf: &mut B, recall: &mut R,
 {
     let top = height - 1;
     let frame = read_frame(work, top);
+    // a pair that waits was taken apart once, and vertices do not change: no frame of a sound shelf is let go here
     let Some(split) = take_apart(shelf, frame.pair) else {
-        return Ok(State { height: top, turn: Turn::Answer(0) });
+        return Ok(State {
+            height: top,
+            turn: Turn::Answer(0),
+        });
     };
     match frame.stage {
         Stage::Outer => {
-            write_frame(work, top, Frame { pair: frame.pair, stage: Stage::Inner(n) });
-            Ok(State { height, turn: Turn::Meet(split.inner) })
+            write_frame(
+                work,
+                top,
+                Frame {
+                    pair: frame.pair,
+                    stage: Stage::Inner(n),
+                },
+            );
+            Ok(State {
+                height,
+                turn: Turn::Meet(split.inner),
+            })
         }
         Stage::Inner(zero) => {
             let number = couple(shelf, split.label, zero, n)?;
             recall.tell(question(rule, frame.pair), number);
-            Ok(State { height: top, turn: Turn::Answer(number) })
+            Ok(State {
+                height: top,
+                turn: Turn::Answer(number),
+            })
         }
     }
 }
@@ -111,7 +162,13 @@ pub fn ended(state: State) -> Option<u32>
     }
 }
 
-pub fn advance<S: Symbol, B: Shelf<S>, R: RecallTable>(shelf: &mut B, recall: &mut R, rule: Rule, work: &mut [Place], state: State) -> Result<State, Full>
+pub fn advance<S: Symbol, B: Shelf<S>, R: RecallTable>(
+    shelf: &mut B,
+    recall: &mut R,
+    rule: Rule,
+    work: &mut [Place],
+    state: State,
+) -> Result<State, Full>
     requires fits { ⌜ Fits (now work) state ⌝ }
     requires unended { ⌜ Unended (state .height) (state .turn) ⌝ }
     ensures falls { λ r. ⌜ Comes-down (now (work .entry)) state (now (work .exit)) r ⌝ }

@@ -23,10 +23,11 @@ returns-in-Some g c =
           let vs = g .B·Shelf .vertices (c .args .shelf .now) in
           let goal = joint (g .S·Symbol .before) vs (number-of (c .args .rule)) (c .args .pair) in
           let R = c .loop-n .inv .3 ready vs goal (begins (g .S·Symbol .before) vs (number-of (c .args .rule)) _ (c .args .work .now) (c .args .pair) sound first second right) in
-          let is : c .loop-n .state ≡ record { height = 0; turn = Answer (c .in-Some .n) } = λ i. record { height = e .0 i; turn = e .1 i } in
-          (ends (g .S·Symbol .before) vs (number-of (c .args .rule)) goal _ _ (c .loop-n .work) (c .in-Some .n)
-           (subst (λ (s : State). Running (g .S·Symbol .before) vs (number-of (c .args .rule)) goal (g .B·Shelf .vertices (c .loop-n .shelf)) (g .R·RecallTable .table (c .loop-n .recall)) (c .loop-n .work) s) is R),
-           R .right);
+          let is : c .loop-n .state ≡ record { height = 0; turn = Answer (c .in-Some .n) } = λ i. record { height = e .0 i; turn = e .1 i } in (
+            ends (g .S·Symbol .before) vs (number-of (c .args .rule)) goal _ _ (c .loop-n .work) (c .in-Some .n)
+                (subst (λ (s : State). Running (g .S·Symbol .before) vs (number-of (c .args .rule)) goal (g .B·Shelf .vertices (c .loop-n .shelf)) (g .R·RecallTable .table (c .loop-n .recall)) (c .loop-n .work) s) is R),
+            R .right,
+          );
       ready = c .loop-n .inv .1;
       size = c .loop-n .inv .2;
     }
@@ -54,6 +55,9 @@ loop-n-less g c = c .in-Continue-state .ensures tt .falls .1
 
 pub loop-n-again : need.loop-n-again
 loop-n-again g c =
-    let t = c .in-Continue-state .ensures tt in
-    (t .falls .0, λ h. c .advance .ensures .ready (c .loop-n .inv .1 h), c .advance .ensures .size ∙ c .loop-n .inv .2,
-     λ ready old goal R. t .turns (c .loop-n .inv .1 ready) old goal (c .loop-n .inv .3 ready old goal R))
+    let t = c .in-Continue-state .ensures tt in (
+      t .falls .0,
+      λ h. c .advance .ensures .ready (c .loop-n .inv .1 h),
+      c .advance .ensures .size ∙ c .loop-n .inv .2,
+      λ ready old goal R. t .turns (c .loop-n .inv .1 ready) old goal (c .loop-n .inv .3 ready old goal R),
+    )

@@ -32,9 +32,9 @@ returns-in-Break-number g c =
           at-err (λ r. Leads (g .S·Symbol .before) old (number-of (c .args .rule)) goal (g .B·Shelf .capacity (c .args .shelf .now)) (g .B·Shelf .vertices (c .couple .last .shelf)) (g .R·RecallTable .table (c .args .recall .now)) (c .args .work .now) r)
           (c .from-residual .result) (c .from-residual .ensures .0)
           (λ e.
-              turn-full (g .S·Symbol .before) (g .S·Symbol·met .ordered) old (number-of (c .args .rule)) goal _ _ (c .args .work .now) (c .args .height) (c .args .n) (c .pre .some) (c .read-frame-frame .result) (c .read-frame-frame .ensures) R
-              (c .in-Some .split) (sym (c .in-Some .ensures tt .value (R .sound .formed))) (c .in-Inner .zero) (g .B·Shelf .capacity (c .args .shelf .now)) (c .in-Inner .is) (g .B·Shelf .vertices (c .couple .last .shelf))
-              _ (c .in-Break-number .ensures tt .answer ready));
+          turn-full (g .S·Symbol .before) (g .S·Symbol·met .ordered) old (number-of (c .args .rule)) goal _ _ (c .args .work .now) (c .args .height) (c .args .n) (c .pre .some) (c .read-frame-frame .result) (c .read-frame-frame .ensures) R
+          (c .in-Some .split) (sym (c .in-Some .ensures tt .value (R .sound .formed))) (c .in-Inner .zero) (g .B·Shelf .capacity (c .args .shelf .now)) (c .in-Inner .is) (g .B·Shelf .vertices (c .couple .last .shelf))
+          _ (c .in-Break-number .ensures tt .answer ready));
       ready = c .couple .ensures .ready;
       size = c .couple .ensures .size;
     }
@@ -42,9 +42,9 @@ returns-in-Break-number g c =
 pub returns-in-Outer : need.returns-in-Outer
 returns-in-Outer g c =
     let near =
-          subst⁻¹ (λ (ps : List Place). Nearer (c .args .work .now) (record { height = c .args .height; turn = Answer (c .args .n) }) ps (record { height = c .args .height; turn = Meet (c .in-Some .split .inner) }))
-          (c .write-frame .ensures)
-          (nearer-inner (c .args .work .now) (c .args .height) (c .args .n) (c .pre .fits) (c .pre .some) (c .read-frame-frame .result) (c .in-Some .split .inner) (c .read-frame-frame .ensures) (c .in-Outer .is) (c .in-Some .ensures tt .below .1)) in
+    subst⁻¹ (λ (ps : List Place). Nearer (c .args .work .now) (record { height = c .args .height; turn = Answer (c .args .n) }) ps (record { height = c .args .height; turn = Meet (c .in-Some .split .inner) }))
+    (c .write-frame .ensures)
+    (nearer-inner (c .args .work .now) (c .args .height) (c .args .n) (c .pre .fits) (c .pre .some) (c .read-frame-frame .result) (c .in-Some .split .inner) (c .read-frame-frame .ensures) (c .in-Outer .is) (c .in-Some .ensures tt .below .1)) in
     record {
       falls = (near .fits, near .falls);
       turns = λ ready old goal R.

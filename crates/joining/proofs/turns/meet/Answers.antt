@@ -48,9 +48,9 @@ pub returns : need.returns
 returns g c =
     let low = c .in-Some-take-apart .ensures tt .below .0 in
     let near =
-          subst⁻¹ (λ (ps : List Place). Nearer (c .args .work .now) (record { height = c .args .height; turn = Meet (c .args .pair) }) ps (record { height = c .args .height + 1; turn = Meet (c .in-Some-take-apart .split .outer) }))
-          (c .write-frame .ensures)
-          (nearer-push (c .args .work .now) (c .args .height) (c .args .pair) (c .in-Some-take-apart .split .outer) (c .pre) low) in
+    subst⁻¹ (λ (ps : List Place). Nearer (c .args .work .now) (record { height = c .args .height; turn = Meet (c .args .pair) }) ps (record { height = c .args .height + 1; turn = Meet (c .in-Some-take-apart .split .outer) }))
+    (c .write-frame .ensures)
+    (nearer-push (c .args .work .now) (c .args .height) (c .args .pair) (c .in-Some-take-apart .split .outer) (c .pre) low) in
     let open-pair = c .in-rest .ensures tt in
     let r = c .pre .reaches in
     let room : c .args .height < length (c .args .work .now) = omega arith in

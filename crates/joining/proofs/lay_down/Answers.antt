@@ -4,7 +4,7 @@ use Prim.Native.Nat.{ℕ, _≤_}
 use lib.ListN.{length}
 use Rattle.ledger.proofs.Reading.{true-false}
 use Rattle.joining.proofs.Landing.{lands, empty-right, cut-back}
-use Rattle.joining.proofs.join.Needs as need
+use Rattle.joining.proofs.lay_down.Needs as need
 
 pub returns-in-Ok : need.returns-in-Ok
 returns-in-Ok g c =
@@ -23,10 +23,11 @@ pub returns-in-Err : need.returns-in-Err
 returns-in-Err g c =
     record {
       answer = λ ready sound first second right.
-          let w = c .in-Err .ensures tt .answer ready sound first second right in
-          ((w .0, cut-back _ (w .1 .0) _ _ _ (c .used-start .ensures) (w .1 .1) (c .cut .ensures .vertices)),
-           empty-right (g .S·Symbol .before) (g .S·Symbol·met .ordered) _ _ (c .forget .ensures));
-      refused = λ e. c .forget .ensures;
-      ready = λ h. c .cut .ensures .ready (c .walk .ensures .ready h);
-      size = c .cut .ensures .size ∙ c .walk .ensures .size;
+          let w = c .in-Err .ensures tt .answer ready sound first second right in (
+            (w .0, cut-back _ (w .1 .0) _ _ _ (c .used-start .ensures) (w .1 .1) (c .undo .ensures .vertices)),
+            empty-right (g .S·Symbol .before) (g .S·Symbol·met .ordered) _ _ (c .undo .ensures .refused),
+          );
+      refused = λ e. c .undo .ensures .refused;
+      ready = λ h. c .undo .ensures .ready (c .walk .ensures .ready h);
+      size = c .undo .ensures .size ∙ c .walk .ensures .size;
     }
