@@ -1,17 +1,18 @@
 -- Hexadecimal text, digit by digit and pair by pair.
 use mathlib.Core.Path.{_≡_, refl, sym, ap, subst, _∙_}
-use mathlib.Core.Bool.{Bool, true, false, cond, _&&_}
+use mathlib.Core.Bool.{Bool, true, false, _&&_}
 use mathlib.Core.List.{List, [], _∷_, _++_}
-use Prim.Native.Nat.{ℕ, zero, suc, _+_, _-_, _*_, _/_, _%_, _<_, _≤_}
+use Prim.Native.Nat.{ℕ, _+_, _-_, _*_, _/_, _%_, _<_, _≤_}
 use native.Mathlib.Omega.{arith}
-use lib.Dec.{leb, ltb, eqb}
+use lib.Dec.{leb, eqb}
 use lib.ListN.{length, getD, take, drop, set}
 use Rattle.std.proofs.shelf.Bits.{div-mul-add, mod-mul-add}
 use Rattle.std.proofs.shelf.Elements.{all-push, all-getD}
 use Rattle.std.proofs.shelf.Lists.{at-drop-more, at-drop-all, append-assoc, take-more, take-more-set, drop-more, drop-set-lt, drop-drop, set-at, length-append, length-take-le, take-append-drop}
 use Rattle.std.proofs.shelf.Tests.{and-parts, eqb-true, eq-eqb}
 use Rattle.std.proofs.shelf.Ways.{tells, decides-by-and}
-use Rattle.commands.specs.Hexadecimals.{digit, hexadecimal, Bytes, Writes, Hexadecimal, is-digit, all-digits, is-text}
+use Rattle.commands.specs.Hexadecimals.{digit, hexadecimal, Bytes, Writes, Hexadecimal}
+use Rattle.commands.specs.Reading.{is-digit, all-digits, is-text}
 
 -- the test of a text, as a loop goes over it
 module _ (bs : List ℕ) (i : ℕ) where

@@ -11,7 +11,6 @@ use lib.ListN.{length}
 use Rattle.std.proofs.shelf.Equals.{sameBytes-decides}
 use Rattle.std.proofs.shelf.Tests.{eqb-true, ne-eqb}
 use Rattle.std.specs.Options.{mapped}
-use Rattle.std.specs.Text.{In}
 use Rattle.std.specs.Written.{decimal}
 use Rattle.std.specs.declared.option.Option.{Option}
 use Rattle.std.specs.declared.option.Option.the-variants.{Some, None}
@@ -19,8 +18,7 @@ use Rattle.std.specs.shelf.Text.{sameBytes}
 use Rattle.commands.specs.declared.command.Word.{Word}
 use Rattle.commands.specs.declared.command.Word.the-variants as words
 use Rattle.commands.specs.Grammar.{Line, add, remove, holds, under, count, write, pick, join, receive, spaced, written, InRange, Says}
-use Rattle.commands.specs.Hexadecimals.{is-text, Hexadecimal}
-use Rattle.commands.specs.Reading.{onto, longer, field-of, number-of, narrow-of, listed, word-of, fields-of, line-of}
+use Rattle.commands.specs.Reading.{onto, longer, field-of, number-of, narrow-of, listed, is-text, word-of, fields-of, line-of}
 use Rattle.commands.proofs.Hexes.{text-sound, text-complete}
 use Rattle.commands.proofs.Numbers.{Holds, holds-onto, holds-mapped, holds-weaker, holds-cond, Figures, Number, decimal-figures, number-sound, narrow-sound, number-decimal, narrow-decimal}
 

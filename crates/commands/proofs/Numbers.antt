@@ -1,16 +1,15 @@
 -- A number read from its digits, and written in decimal.
-use mathlib.Core.Path.{_≡_, refl, sym, ap, subst, _∙_}
-use mathlib.Core.Bool.{Bool, true, false, cond, not, _&&_}
+use mathlib.Core.Path.{_≡_, refl, ap, _∙_}
+use mathlib.Core.Bool.{Bool, true, false, cond, _&&_}
 use mathlib.Core.List.{List, [], _∷_, _++_}
-use Prim.Native.Nat.{ℕ, zero, suc, _+_, _-_, _*_, _/_, _%_, _^_, _<_, _≤_}
+use Prim.Native.Nat.{ℕ, zero, suc, _+_, _-_, _*_, _/_, _%_, _^_, _<_}
 use native.Mathlib.Omega.{arith}
 use borrow.Author.Needs.{needs}
 use lib.Dec.{leb, ltb, eqb}
 use lib.ListN.{length, getD}
 use Rattle.std.proofs.shelf.Decimals.{decimal-by-steps, decimal-value, digits-decimal, decimal-digit, decimal-some, first-decimal}
 use Rattle.std.proofs.shelf.Numerals.{Numerals, numerals-by-fold}
-use Rattle.std.proofs.shelf.Tests.{ltb-true, ltb-false, lt-ltb, le-ltb, leb-true, le-leb, ne-eqb, not-true, eqb-false, cases-order, and-parts}
-use Rattle.std.proofs.shelf.Ways.{tells}
+use Rattle.std.proofs.shelf.Tests.{ltb-true, ltb-false, lt-ltb, le-ltb, leb-true, le-leb, ne-eqb, not-true, eqb-false, and-parts}
 use Rattle.std.specs.Options.{Cases, mapped}
 use Rattle.std.specs.Text.{In}
 use Rattle.std.specs.Written.{decimal}

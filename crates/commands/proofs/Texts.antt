@@ -1,18 +1,18 @@
 -- Fields and numbers of a line.
 use mathlib.Core.Path.{_≡_, refl, sym, ap, _∙_}
-use mathlib.Core.Bool.{Bool, true, false, cond, _&&_}
+use mathlib.Core.Bool.{true, false}
 use mathlib.Core.List.{List, [], _∷_}
-use Prim.Native.Nat.{ℕ, zero, suc, _+_, _-_, _*_, _<_, _≤_}
+use Prim.Native.Nat.{ℕ, zero, suc, _+_, _-_, _<_, _≤_}
 use native.Mathlib.Numerals.{add-one}
 use native.Mathlib.Omega.{arith}
-use lib.Dec.{leb, ltb, eqb}
+use lib.Dec.{eqb}
 use lib.ListN.{length, getD, take, drop, length-drop}
 use lib.Seq.{drop-cons, take-all}
 use borrow.Author.Tests.{ne-eqb, eq-eqb}
 use Rattle.std.proofs.shelf.Lists.{drop-all}
 use Rattle.std.specs.declared.option.Option.{Option}
 use Rattle.std.specs.declared.option.Option.the-variants.{Some, None}
-use Rattle.commands.specs.Reading.{field-of, longer, number-after, number-of, onto, grown, plain}
+use Rattle.commands.specs.Reading.{field-of, number-after, number-of, onto, grown, plain}
 
 pub field-none : (bs : List ℕ) → ((k : ℕ) → k < length bs → getD bs k 0 ≡ 32 → ⊥) → field-of bs ≡ None
 field-none [] h = refl

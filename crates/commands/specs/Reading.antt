@@ -1,10 +1,12 @@
--- A line read from left to right: a computation that proofs go by. What it must find is said in Grammar.
-use mathlib.Core.Bool.{Bool, true, false, cond, not, _&&_}
+-- Reading from left to right, as a computation: a means of the proofs. What is to be found is said in Grammar and
+-- Hexadecimals.
+use mathlib.Core.Bool.{Bool, true, false, cond, not, _&&_, _||_}
 use mathlib.Core.List.{List, [], _∷_}
-use Prim.Native.Nat.{ℕ, _+_, _-_, _*_}
+use Prim.Native.Nat.{ℕ, _+_, _-_, _*_, _%_}
 use denote.Ref.{RefT}
 use lib.Chars.{codes}
 use lib.Dec.{leb, ltb, eqb}
+use lib.ListN.{length}
 use Rattle.std.specs.Options.{mapped}
 use Rattle.std.specs.shelf.Text.{sameBytes}
 use Rattle.std.specs.declared.option.Option.{Option}
@@ -12,13 +14,13 @@ use Rattle.std.specs.declared.option.Option.the-variants.{Some, None}
 use Rattle.commands.specs.declared.command.Word.{Word}
 use Rattle.commands.specs.declared.command.Word.the-variants as words
 use Rattle.commands.specs.Grammar.{Line, add, remove, holds, under, count, write, pick, join, receive}
-use Rattle.commands.specs.Hexadecimals.{is-text}
 
--- go on with what was read, if anything was
+-- what is read next, if anything was read
 abbrev pub onto : {A B : Type 0} → (A → Option B) → Option A → Option B
 onto f None = None
 onto f (Some x) = f x
 
+-- borrowed parts of a text, as they read
 abbrev pub texts : RefT (List ℕ) × RefT (List ℕ) → List ℕ × List ℕ
 texts p = (p .0 .now, p .1 .now)
 
@@ -51,9 +53,11 @@ plain [] = false
 plain (b ∷ []) = true
 plain (b ∷ c ∷ bs) = not (eqb b 48)
 
+-- a number of 64 bits, and one of 32 bits, in decimal
 abbrev pub number-of : List ℕ → Option ℕ
 number-of bs = cond (plain bs) (number-after 0 bs) None
 
+-- the same number, if it stays below 2 ^ 32
 abbrev pub narrow : ℕ → Option ℕ
 narrow n = cond (ltb 4294967295 n) None (Some n)
 
@@ -64,6 +68,18 @@ narrow-of bs = onto narrow (number-of bs)
 abbrev pub listed : List ℕ → Option (ℕ × List ℕ)
 listed bs = onto (λ p. mapped (λ n. (n, p .1)) (narrow-of (p .0))) (field-of bs)
 
+-- hexadecimal text: digits alone, an even number of them
+abbrev pub is-digit : ℕ → Bool
+is-digit b = (leb 48 b && leb b 57) || (leb 97 b && leb b 102)
+
+abbrev pub all-digits : List ℕ → Bool
+all-digits [] = true
+all-digits (b ∷ bs) = is-digit b && all-digits bs
+
+abbrev pub is-text : List ℕ → Bool
+is-text bs = all-digits bs && eqb (length bs % 2) 0
+
+-- the word that a command begins with
 abbrev pub word-of : List ℕ → Option Word
 word-of bs =
     cond (sameBytes bs (codes "ADD")) (Some words.Add)

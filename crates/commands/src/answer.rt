@@ -1,5 +1,4 @@
-// The text of an answer: one line, its line feed included.
-ghost use mathlib.Core.Path.{_≡_};
+// The text of an answer: one line, its line feed included. An output that is too short is left as it was.
 ghost use Rattle.std.specs.Written.{decimal};
 ghost use Rattle.commands.specs.Answers.{answer-text, ended, refused-text};
 ghost use Rattle.commands.specs.Hexadecimals.{hexadecimal};
@@ -19,7 +18,7 @@ pub enum Answer<'a> {
     Refused(u8),
 }
 
-// Writes a text and a line feed.
+// Puts a text and a line feed at the start of `out`; so do the next three.
 fn write_line(text: &[u8], out: &mut [u8]) -> Result<usize, TooShort>
     ensures { λ r. ⌜ Puts (ended (now (text .entry))) (now (out .entry)) (now (out .exit)) r ⌝ }
 {
@@ -60,7 +59,7 @@ fn write_bytes(bytes: &[u8], out: &mut [u8]) -> Result<usize, TooShort>
     Ok(n + 1)
 }
 
-// Writes the text of an answer to the start of `out`, and answers how long it is.
+// Puts the text of an answer at the start of `out`, and answers how long it is.
 pub fn write_answer(answer: Answer, out: &mut [u8]) -> Result<usize, TooShort>
     ensures after { λ r. ⌜ Puts (answer-text (answer .entry)) (now (out .entry)) (now (out .exit)) r ⌝ }
 {

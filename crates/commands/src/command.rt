@@ -1,5 +1,4 @@
 // A line of input as a command, with the code text still a part of the line.
-ghost use Prim.Native.Nat.{ℕ, _≤_};
 ghost use mathlib.Core.Logic.{_↔_};
 ghost use mathlib.Core.Path.{_≡_};
 ghost use Rattle.std.specs.Options.{mapped};
@@ -45,6 +44,7 @@ enum Word {
     Receive,
 }
 
+// The word that stands there.
 fn read_word(word: &[u8]) -> Option<Word>
     ensures { λ r. ⌜ r ≡ word-of (now (word .entry)) ⌝ }
 {
@@ -118,6 +118,7 @@ fn read_fields<'a>(word: Word, text: &'a [u8]) -> Option<Command<'a>>
     }
 }
 
+// The command that a line writes, however long the line is.
 fn read_line<'a>(line: &'a [u8]) -> Option<Command<'a>>
     ensures { λ r. ⌜ mapped meaning r ≡ line-of (now (line .entry)) ⌝ }
 {

@@ -18,7 +18,7 @@ fn count_digits(n: u64) -> usize
     count
 }
 
-// Writes a number to the start of `out`, from its last digit to its first, and answers how many digits it has.
+// Puts a number at the start of `out`, from its last digit to its first, and answers how many digits it has.
 pub fn write_decimal(n: u64, out: &mut [u8]) -> usize
     requires { ⌜ 20 ≤ length (now out) ⌝ }
     ensures most { λ r. ⌜ r ≤ 20 ⌝ }

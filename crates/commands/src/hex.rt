@@ -4,8 +4,9 @@ ghost use Prim.Native.Nat.{ℕ, _/_, _%_, _<_};
 ghost use mathlib.Core.Bool.{true};
 ghost use mathlib.Core.List.{List};
 ghost use mathlib.Core.Path.{_≡_};
-ghost use Rattle.commands.specs.Hexadecimals.{digit, hexadecimal, Writes, is-digit, is-text};
+ghost use Rattle.commands.specs.Hexadecimals.{digit, hexadecimal, Writes};
 ghost use Rattle.commands.specs.Outputs.{Puts, Decodes};
+ghost use Rattle.commands.specs.Reading.{is-digit, is-text};
 use crate::output::TooShort;
 
 // Why hexadecimal text is refused.
@@ -61,7 +62,7 @@ fn write_digit(n: u8) -> u8
     if n < 10 { b'0' + n } else { b'a' - 10 + n }
 }
 
-// Writes the bytes that a hexadecimal text writes to the start of `out`, and answers how many.
+// Puts the bytes that a hexadecimal text writes at the start of `out`, and answers how many they are.
 pub fn decode_hex(hex: &[u8], out: &mut [u8]) -> Result<usize, HexFault>
     ensures answer { λ r. ⌜ Decodes (now (hex .entry)) (now (out .entry)) (now (out .exit)) r ⌝ }
     ensures once { λ _. ⌜ ((these those : List ℕ) → Writes (now (hex .entry)) these → Writes (now (hex .entry)) those → these ≡ those) ⌝ }
@@ -79,7 +80,7 @@ pub fn decode_hex(hex: &[u8], out: &mut [u8]) -> Result<usize, HexFault>
     Ok(count)
 }
 
-// Writes bytes as hexadecimal text to the start of `out`, and answers how long it is.
+// Puts the hexadecimal text of bytes at the start of `out`, and answers how long it is.
 pub fn encode_hex(bytes: &[u8], out: &mut [u8]) -> Result<usize, TooShort>
     ensures answer { λ r. ⌜ Puts (hexadecimal (now (bytes .entry))) (now (out .entry)) (now (out .exit)) r ⌝ }
 {

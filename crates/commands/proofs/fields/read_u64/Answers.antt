@@ -1,7 +1,4 @@
-use mathlib.Core.Path.{_≡_, sym, _∙_}
-use mathlib.Core.Bool.{true}
-use native.Mathlib.Omega.{arith}
-use Rattle.commands.specs.Reading.{plain, number-of, number-after}
+use mathlib.Core.Path.{sym, _∙_}
 use Rattle.commands.proofs.Texts.{number-plain, number-more, number-stops, number-end}
 use Rattle.commands.proofs.fields.read_u64.Needs as need
 

@@ -4,7 +4,7 @@ use Prim.Native.Nat.{_+_, _*_, _/_, _%_}
 use lib.ListN.{length, take}
 use Rattle.std.proofs.shelf.Lists.{take-all, length-take-le}
 use Rattle.std.proofs.shelf.Tests.{both-ways, and-parts, eqb-true}
-use Rattle.commands.specs.Hexadecimals.{all-digits}
+use Rattle.commands.specs.Reading.{all-digits}
 use Rattle.commands.proofs.Hexes.{text-sound, text-complete, hex-once, length-hex, read-more, bytes-more, kept-more, read-all, digit-at}
 use Rattle.commands.proofs.hex.decode_hex.Needs as need
 

@@ -1,5 +1,5 @@
 use mathlib.Core.List.{_++_}
-use mathlib.Core.Path.{_≡_, refl, sym, ap, _∙_}
+use mathlib.Core.Path.{_≡_, refl, sym, _∙_}
 use Prim.Native.Nat.{_+_, _*_}
 use lib.ListN.{length, take, drop, set}
 use Rattle.std.proofs.shelf.Lists.{take-all}

@@ -1,5 +1,4 @@
 use mathlib.Core.Path.{sym, _∙_}
-use native.Mathlib.Omega.{arith}
 use Rattle.commands.proofs.Hexes.{text-stops, text-more, text-ends}
 use Rattle.commands.proofs.hex.is_hex.Needs as need
 

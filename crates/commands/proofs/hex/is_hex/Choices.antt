@@ -1,6 +1,6 @@
 use mathlib.Core.Path.{_≡_}
 use lib.ListN.{drop}
-use Rattle.commands.specs.Hexadecimals.{all-digits}
+use Rattle.commands.specs.Reading.{all-digits}
 use Rattle.commands.proofs.hex.is_hex.Given as given
 
 abbrev pub Inv-loop-b : given.InvT-loop-b
