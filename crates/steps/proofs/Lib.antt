@@ -1,0 +1,5 @@
+pub mod Decimals
+pub mod Laying
+pub mod Spelling
+pub mod Turns
+pub mod Units

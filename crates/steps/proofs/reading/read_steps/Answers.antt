@@ -1,0 +1,1 @@
+use Rattle.steps.proofs.reading.read_steps.Needs as need

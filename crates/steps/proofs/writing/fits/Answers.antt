@@ -1,0 +1,1 @@
+use Rattle.steps.proofs.writing.fits.Needs as need

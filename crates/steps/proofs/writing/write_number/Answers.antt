@@ -1,0 +1,1 @@
+use Rattle.steps.proofs.writing.write_number.Needs as need
