@@ -7,6 +7,7 @@ ghost use lib.Dec.{ltb};
 ghost use lib.ListN.{getD};
 ghost use mathlib.Core.List.{[], _∷_};
 ghost use mathlib.Core.Path.{_≡_};
+ghost use Rattle.std.specs.Orderings.{Decides};
 ghost use Rattle.letters.specs.Letters.{byte-of, letter-of};
 ghost use Rattle.letters.specs.Codes.{spelled, text-of};
 ghost use Rattle.texts.specs.Texts.{Begun};
@@ -19,7 +20,7 @@ use texts::TextFromSymbol;
 use texts::TextSymbol;
 use texts::put;
 
-#[derive(Clone, Copy, Debug, PartialEq, Eq)]
+#[derive(Clone, Copy, Debug)]
 pub enum Letter {
     Space = b' ' as isize,
     Exclamation = b'!' as isize,
@@ -231,6 +232,16 @@ impl Letter {
         self as u8
     }
 }
+
+pub impl PartialEq<Letter> for Letter as LetterPartialEq {
+    ghost equals = { λ a b r. Decides r (a ≡ b) };
+
+    fn eq(&self, other: &Letter) -> bool {
+        self.to_byte() == other.to_byte()
+    }
+}
+
+pub impl Eq for Letter as LetterEq {}
 
 pub impl Symbol for Letter as LetterSymbol {
     ghost before = { λ a b. ltb (byte-of a) (byte-of b) };

@@ -3,7 +3,7 @@ use mathlib.Core.Path.{_≡_, refl, ap, sym, _∙_}
 use mathlib.Core.List.{List, [], _∷_, _++_, append-assoc}
 use Prim.Native.Nat.{ℕ, _+_, _<_, _≤_}
 use native.Mathlib.Omega.{arith}
-use lib.ListN.{length, getD, take, drop, set, length-append}
+use lib.ListN.{length, getD, take, drop, set, length-append, length-drop}
 use Rattle.std.proofs.shelf.Lists.{take-at, drop-at, drop-drop, drop-more, set-at, take-more, take-append-drop, length-take-le, append-nil}
 use Rattle.std.specs.shelf.Lists.{joined}
 use Rattle.steps.specs.Paths.{laid}
@@ -41,6 +41,26 @@ laid-after at b bs out h =
     let next : at + 1 ≡ length (front ++ b ∷ []) = ap (λ n. n + 1) long ∙ sym (length-append front (b ∷ [])) in
     ap (λ s. laid (at + 1) bs (set s at b)) (sym (front-itself at out (omega arith))) ∙ ap (laid (at + 1) bs) (set-next front out at b long h) ∙ laid-next (front ++ b ∷ []) bs out (at + 1) next
     ∙ ap (λ s. fronted s out) (append-assoc front (b ∷ []) bs) ∙ sym (laid-front at (b ∷ bs) out (omega arith))
+
+-- nothing laid changes nothing
+pub laid-none : (at : ℕ) (out : List ℕ) → out ≡ laid at [] out
+laid-none at out = let here : at + 0 ≡ at = omega arith in sym (ap (λ n. take at out ++ drop n out) here ∙ take-append-drop at out)
+
+-- bytes, and then others
+pub laid-on : (at end : ℕ) (bs more out : List ℕ) → at ≤ length out → end ≡ at + length bs → laid end more (laid at bs out) ≡ laid at (bs ++ more) out
+laid-on at end bs more out h e =
+    let front = take at out in
+    let long : end ≡ length (front ++ bs) = e ∙ ap (λ n. n + length bs) (sym (length-take-le at out h)) ∙ sym (length-append front bs) in
+    ap (laid end more) (laid-front at bs out h) ∙ laid-next (front ++ bs) more out end long ∙ ap (λ s. fronted s out) (append-assoc front bs more) ∙ sym (laid-front at (bs ++ more) out h)
+
+pub length-laid : (at : ℕ) (bs out : List ℕ) → at + length bs ≤ length out → length (laid at bs out) ≡ length out
+length-laid at bs out h =
+    let rest = drop (at + length bs) out in
+    let front : length (take at out) ≡ at = length-take-le at out (omega arith) in
+    let all = length-append (take at out) (bs ++ rest) in
+    let back = length-append bs rest in
+    let past = length-drop (at + length bs) out in
+    omega arith
 
 -- a byte right before those that stand
 pub set-before : (old last rest : List ℕ) (at b : ℕ) → at < length old → set (take (at + 1) old ++ (last ++ rest)) at b ≡ take at old ++ ((b ∷ last) ++ rest)

@@ -37,8 +37,8 @@ pub onto-none : (o : Option (List Step)) → o ≡ onto [] o
 onto-none None = refl
 onto-none (Some code) = refl
 
-onto-done : (code : List Step) (done : Option Step) (o : Option (List Step)) → onto code (mapped (with-done done) o) ≡ onto (code ++ with-done done []) o
-onto-done code done None = refl
+onto-done : (code : List Step) (d : Option Step) (o : Option (List Step)) → onto code (mapped (with-done d) o) ≡ onto (code ++ with-done d []) o
+onto-done code d None = refl
 onto-done code None (Some rest) = ap (λ c. Some (c ++ rest)) (sym (append-nil code))
 onto-done code (Some s) (Some rest) = ap (λ c. Some c) (sym (append-assoc code (s ∷ []) rest))
 
@@ -92,3 +92,8 @@ kept-few (Numbered s) b t count r i out new e = go (eqb b 47) (sym e)
         let m = mapped-own (λ n. within (numbered (s .unit) n)) (grown (s .number) b) t p in
         let at : P (within (numbered (s .unit) (m .0))) = λ k h. omega arith in
         subst P (m .2) at
+
+pub ended-none : (stage : Stage) → ((s : Step) → stage ≡ Numbered s → ⊥) → ended stage ≡ None
+ended-none Start h = refl
+ended-none (Lettered u) h = refl
+ended-none (Numbered s) h = absurd (h s refl)
