@@ -8,17 +8,26 @@ ghost use lib.ListN.{getD};
 ghost use mathlib.Core.List.{[], _∷_};
 ghost use mathlib.Core.Path.{_≡_};
 ghost use Rattle.std.specs.Orderings.{Decides};
+ghost use Rattle.std.specs.Vec.{made};
+ghost use Rattle.std.specs.declared.result.Result.the-variants.{Ok};
 ghost use Rattle.letters.specs.Letters.{byte-of, letter-of};
 ghost use Rattle.letters.specs.Codes.{spelled, text-of};
-ghost use Rattle.texts.specs.Texts.{Begun};
+ghost use Rattle.texts.specs.Texts.{Begun, WrittenTo};
 use symbols::Symbol;
 use symbols::SymbolFault;
 use symbols::WireSymbol;
+use symbols::same;
 use texts::ShortText;
 use texts::TextFault;
 use texts::TextFromSymbol;
 use texts::TextSymbol;
 use texts::put;
+
+// The number of this kind.
+const KIND: u8 = 1;
+
+// The bytes that a letter takes.
+const WIDTH: usize = 1;
 
 #[derive(Clone, Copy, Debug)]
 pub enum Letter {
@@ -237,7 +246,7 @@ pub impl PartialEq<Letter> for Letter as LetterPartialEq {
     ghost equals = { λ a b r. Decides r (a ≡ b) };
 
     fn eq(&self, other: &Letter) -> bool {
-        self.to_byte() == other.to_byte()
+        same(*self, *other)
     }
 }
 
@@ -267,11 +276,11 @@ pub impl WireSymbol for Letter as LetterWire {
     ghost reads = { λ bs. letter-of (getD bs 0 0) };
 
     fn kind() -> u8 {
-        1
+        KIND
     }
 
     fn width() -> usize {
-        1
+        WIDTH
     }
 
     fn write(self, out: &mut [u8]) {
@@ -295,13 +304,7 @@ pub impl TextSymbol for Letter as LetterText {
     }
 
     fn write_code(code: &[Letter], out: &mut [u8]) -> Result<usize, ShortText> {
-        if code.len() > out.len() {
-            return Err(ShortText);
-        }
-        for (i, letter) in code.iter().enumerate() {
-            out[i] = letter.to_byte();
-        }
-        Ok(code.len())
+        write_letters(code, out)
     }
 }
 
@@ -314,4 +317,18 @@ fn read_letters(from: &[u8], out: &mut [Letter]) -> Result<usize, TextFault>
         put(out, i, letter);
     }
     Ok(from.len())
+}
+
+// Writes the bytes of the letters of a code to the start of `out`, if there is room for all.
+fn write_letters(code: &[Letter], out: &mut [u8]) -> Result<usize, ShortText>
+    ensures answer { λ r. ⌜ WrittenTo (text-of (now (code .entry))) (now (out .entry)) r (now (out .exit)) ⌝ }
+    ensures back { λ r. ⌜ made r (λ _. spelled (text-of (now (code .entry))) ≡ Ok (now (code .entry))) ⌝ }
+{
+    if code.len() > out.len() {
+        return Err(ShortText);
+    }
+    for (i, letter) in code.iter().enumerate() {
+        out[i] = letter.to_byte();
+    }
+    Ok(code.len())
 }

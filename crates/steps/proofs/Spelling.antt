@@ -85,12 +85,14 @@ turn-own (Numbered s) b t p fine bs rest = go (eqb b 47) refl p
   where
     P : Turn → Type 0
     P v = Own (v .next) bs rest → Own (Numbered s) (b ∷ bs) (with-done (v .done) rest)
+
     more : (m : ℕ) → grown (s .number) b ≡ Some m → P (within (numbered (s .unit) m))
     more m e o =
         let g = grown-own (s .number) b m e in
         let byte : 48 + (b - 48) ≡ b = omega arith in
         let digits : decimal m ≡ decimal (s .number) ++ b ∷ [] = ap decimal (g .3) ∙ decimal-more (s .number) (b - 48) (g .0) (g .2) (omega arith) ∙ ap (λ c. decimal (s .number) ++ c ∷ []) byte in
         (o .0 ∙ ap (λ ds. unit-letter (s .unit) ∷ (ds ++ bs)) digits ∙ ap (λ ds. unit-letter (s .unit) ∷ ds) (append-assoc (decimal (s .number)) (b ∷ []) bs), o .1, o .2)
+
     go : (q : Bool) → eqb b 47 ≡ q → _≡_ {A = Option Turn} (cond q (Some (record { done = Some s; next = Start })) (mapped (λ n. within (numbered (s .unit) n)) (grown (s .number) b))) (Some t) → P t
     go true q e =
         let same : _≡_ {A = Turn} (record { done = Some s; next = Start }) t = cc in
@@ -112,6 +114,7 @@ turn-fine (Numbered s) b t p = go (eqb b 47) p
   where
     P : Turn → Type 0
     P v = Fine (v .next)
+
     go : (q : Bool) → _≡_ {A = Option Turn} (cond q (Some (record { done = Some s; next = Start })) (mapped (λ n. within (numbered (s .unit) n)) (grown (s .number) b))) (Some t) → P t
     go true e = let same : _≡_ {A = Turn} (record { done = Some s; next = Start }) t = cc in subst P same tt
     go false e = let m = mapped-own (λ n. within (numbered (s .unit) n)) (grown (s .number) b) t e in subst P (m .2) (grown-own (s .number) b (m .0) (m .1) .4)
@@ -163,6 +166,7 @@ digits-read u n h = decimal-by-steps P (λ k l s bs. first-read u k l bs) more n
   where
     P : ℕ → List ℕ → Type 0
     P k ds = k < 65536 → (bs : List ℕ) → steps-from (Lettered u) (ds ++ bs) ≡ steps-from (numbered u k) bs
+
     more : (k : ℕ) (ds : List ℕ) → 10 ≤ k → P (k / 10) ds → P k (ds ++ ((48 + k % 10) ∷ []))
     more k ds l on s bs =
         ap (steps-from (Lettered u)) (append-assoc ds ((48 + k % 10) ∷ []) bs) ∙ on (omega arith) ((48 + k % 10) ∷ bs)

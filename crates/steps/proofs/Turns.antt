@@ -83,6 +83,7 @@ kept-few (Numbered s) b t count r i out new e = go (eqb b 47) (sym e)
   where
     P : Turn → Type 0
     P v = Kept (v .done) count out r new → count + 1 ≤ i → r + pending (v .next) ≤ i + 1
+
     go : (q : Bool) → _≡_ {A = Option Turn} (cond q (Some (record { done = Some s; next = Start })) (mapped (λ n. within (numbered (s .unit) n)) (grown (s .number) b))) (Some t) → P t
     go true p =
         let same : _≡_ {A = Turn} (record { done = Some s; next = Start }) t = cc in

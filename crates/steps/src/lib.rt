@@ -8,17 +8,23 @@ ghost use Rattle.texts.specs.Texts.{ReadTo};
 ghost use Rattle.steps.specs.Paths.{text-of, Exact};
 ghost use Rattle.steps.specs.Stages.{spelled};
 ghost use Rattle.steps.specs.Units.{unit-byte, unit-of, earlier, step-bytes, step-of, unit-letter, unit-of-letter};
+use crate::reading::read_steps;
+use crate::writing::write_steps;
 use symbols::Symbol;
 use symbols::SymbolFault;
 use symbols::WireSymbol;
 use texts::ShortText;
 use texts::TextFault;
 use texts::TextSymbol;
-use crate::reading::read_steps;
-use crate::writing::write_steps;
 
 mod reading;
 mod writing;
+
+// The number of this kind.
+const KIND: u8 = 2;
+
+// The bytes that a step takes: one for its unit, and two for its number.
+const WIDTH: usize = 3;
 
 #[derive(Clone, Copy, Debug, PartialEq, Eq)]
 pub enum Unit {
@@ -120,11 +126,11 @@ pub impl WireSymbol for Step as StepWire {
     ghost reads = { step-of };
 
     fn kind() -> u8 {
-        2
+        KIND
     }
 
     fn width() -> usize {
-        3
+        WIDTH
     }
 
     fn write(self, out: &mut [u8]) {

@@ -4,11 +4,12 @@
 ghost use Prim.Native.Nat.{_+_, _<_, _^_};
 ghost use mathlib.Core.Path.{_≡_};
 ghost use Rattle.texts.specs.Texts.{Begun};
+ghost use Rattle.steps.specs.Paths.{Exact};
 ghost use Rattle.steps.specs.Stages.{digit-of, grown, turned, Kept, spelled};
-use texts::TextFault;
-use texts::put;
 use crate::Step;
 use crate::Unit;
+use texts::TextFault;
+use texts::put;
 
 // What is read of a step: nothing, its letter, or its letter and a digit or more.
 #[derive(Clone, Copy)]
@@ -104,7 +105,8 @@ fn keep(done: Option<Step>, count: usize, out: &mut [Step]) -> usize
 
 // Reads the steps of a text to the start of `out`, as far as there is room, up to the first byte that is out of place.
 pub fn read_steps(from: &[u8], out: &mut [Step]) -> Result<usize, TextFault>
-    ensures { λ r. ⌜ Begun (spelled (now (from .entry))) (now (out .entry)) r (now (out .exit)) ⌝ }
+    ensures answer { λ r. ⌜ Begun (spelled (now (from .entry))) (now (out .entry)) r (now (out .exit)) ⌝ }
+    ensures exact { λ _. ⌜ Exact (now (from .entry)) (spelled (now (from .entry))) ⌝ }
 {
     if from.len() == 0 {
         return Ok(0);

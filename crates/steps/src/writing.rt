@@ -9,11 +9,12 @@ ghost use mathlib.Core.Bool.{true};
 ghost use mathlib.Core.Path.{_≡_};
 ghost use Rattle.std.specs.Vec.{made};
 ghost use Rattle.std.specs.Written.{decimal};
-ghost use Rattle.std.specs.shelf.Lists.{All};
+ghost use Rattle.std.specs.declared.result.Result.the-variants.{Ok};
 ghost use Rattle.texts.specs.Texts.{WrittenTo};
 ghost use Rattle.steps.specs.Paths.{step-text, text-of, laid, Short};
-use texts::ShortText;
+ghost use Rattle.steps.specs.Stages.{spelled};
 use crate::Step;
+use texts::ShortText;
 
 // How many digits a number has.
 fn digits(n: u16) -> usize
@@ -77,7 +78,7 @@ fn fits(first: Step, rest: &[Step], room: usize) -> bool
 // Writes the text of a code to the start of `out`, and answers its length.
 pub fn write_steps(code: &[Step], out: &mut [u8]) -> Result<usize, ShortText>
     ensures answer { λ r. ⌜ WrittenTo (text-of (now (code .entry))) (now (out .entry)) r (now (out .exit)) ⌝ }
-    ensures short { λ r. ⌜ made r (λ _. All Short (now (code .entry))) ⌝ }
+    ensures back { λ r. ⌜ made r (λ _. spelled (text-of (now (code .entry))) ≡ Ok (now (code .entry))) ⌝ }
 {
     let Some((first, rest)) = code.split_first() else {
         return Ok(0);

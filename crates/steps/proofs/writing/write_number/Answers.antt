@@ -11,14 +11,13 @@ use Rattle.steps.proofs.Laying.{set-before}
 use Rattle.steps.proofs.writing.write_number.Needs as need
 
 pub loop-n-holds : need.loop-n-holds
-loop-n-holds c =
-    (
-      [],
-      sym (append-nil (decimal (c .args .number))),
-      ap (λ k. c .args .at + k) (c .digits .ensures .value),
-      sym (take-append-drop (c .args .at + c .digits .result) (c .args .out .now)),
-      omega arith,
-    )
+loop-n-holds c = (
+  [],
+  sym (append-nil (decimal (c .args .number))),
+  ap (λ k. c .args .at + k) (c .digits .ensures .value),
+  sym (take-append-drop (c .args .at + c .digits .result) (c .args .out .now)),
+  omega arith,
+)
 
 pub sub-place : need.sub-place
 sub-place c = let some = decimal-some (c .loop-n .n) (wide (c .loop-n .n) (c .loop-n .inv .4)) in let at = c .loop-n .inv .2 in omega arith
@@ -42,8 +41,7 @@ loop-n-again c =
     let long = ap length step ∙ length-append (decimal (n / 10)) ((48 + n % 10) ∷ []) in
     let at = c .loop-n .inv .2 in
     let whole = ap length (c .loop-n .inv .1) ∙ length-append (decimal n) last in
-    let before : place ≡ place - 1 + 1 = omega arith in
-    (
+    let before : place ≡ place - 1 + 1 = omega arith in (
       (48 + n % 10) ∷ last,
       c .loop-n .inv .1 ∙ ap (λ s. s ++ last) step ∙ append-assoc (decimal (n / 10)) ((48 + n % 10) ∷ []) last,
       omega arith,

@@ -5,10 +5,13 @@ use native.Mathlib.Omega.{arith}
 use lib.ListN.{length, drop, set, length-set}
 use Rattle.std.proofs.shelf.Elements.{all-more}
 use Rattle.std.proofs.shelf.Lists.{nil-from-length, take-all}
+use Rattle.std.specs.declared.result.Result.the-variants.{Ok}
 use Rattle.std.specs.shelf.Lists.{All}
 use Rattle.steps.specs.Paths.{text-of, Short}
+use Rattle.steps.specs.Stages.{spelled}
 use Rattle.steps.specs.declared.Step.{Step}
 use Rattle.steps.proofs.Laying.{laid-none}
+use Rattle.steps.proofs.Spelling.{text-back}
 use Rattle.steps.proofs.Texts.{length-text, room-next, end-next, written-next, end-all, written-all}
 use Rattle.steps.proofs.writing.write_steps.Needs as need
 
@@ -17,7 +20,7 @@ returns-in-rest c =
     let none = nil-from-length (c .args .code .now) (c .in-rest .ensures tt .cases) in
     let old = c .args .out .now in
     let P : List Step → Type 0 = λ code. (length (text-of code) ≤ length old) × (_≡_ {A = ℕ} 0 (length (text-of code))) × (old ≡ text-of code ++ drop (length (text-of code)) old) in
-    record { answer = subst P (sym none) (omega arith, refl, refl); short = subst (λ code. All Short code) (sym none) tt }
+    record { answer = subst P (sym none) (omega arith, refl, refl); back = subst (λ code. spelled (text-of code) ≡ Ok code) (sym none) refl }
 
 pub write-step-at-requires : need.write-step-at-requires
 write-step-at-requires c κs =
@@ -59,8 +62,7 @@ loop-step-again c =
     let first = c .in-Some .first .now in
     let fits = c .fits-2 .ensures .0 (c .if-not-fits .left) in
     let whole = length-text first rest in
-    let room = room-next first rest i a (c .loop-step .at) (length (c .args .out .now)) first h (c .write-step-at .ensures .value) (c .loop-step .inv .0) fits in
-    (
+    let room = room-next first rest i a (c .loop-step .at) (length (c .args .out .now)) first h (c .write-step-at .ensures .value) (c .loop-step .inv .0) fits in (
       end-next rest i a (c .loop-step .at) (c .write-step-at-in-loop-step .result) _ h (c .loop-step .inv .0) (c .write-step-at-in-loop-step .ensures .value),
       written-next rest i a (c .loop-step .at) (c .loop-step .out) (c .write-step-at-in-loop-step .last .out) start _ h (omega arith) (omega arith) (c .loop-step .inv .0) (c .loop-step .inv .1) (c .write-step-at-in-loop-step .ensures .after),
       all-more Short rest i _ h (c .loop-step .inv .2) (c .write-step-at-in-loop-step .ensures .short),
@@ -82,4 +84,4 @@ returns c =
       written-all first rest i a (c .loop-step .out) (c .write-step-at .last .out) old h (c .write-step-at .ensures .value) (c .loop-step .inv .1) (c .write-step-at .ensures .after),
     ) in
     let fit : All Short (first ∷ rest) = (c .write-step-at .ensures .short, subst (λ s. All Short s) (take-all i rest h) (c .loop-step .inv .2)) in
-    record { answer = subst P (sym split) at-end; short = subst (λ s. All Short s) (sym split) fit }
+    record { answer = subst P (sym split) at-end; back = subst (λ code. spelled (text-of code) ≡ Ok code) (sym split) (text-back (first ∷ rest) fit) }

@@ -1,4 +1,0 @@
-use Rattle.letters.proofs.LetterPartialEq.eq.Needs as need
-
-pub returns : need.returns
-returns c = ?
