@@ -7,19 +7,29 @@ ghost use lib.Dec.{ltb};
 ghost use lib.ListN.{getD};
 ghost use mathlib.Core.List.{[], _∷_};
 ghost use mathlib.Core.Path.{_≡_};
+ghost use Rattle.std.specs.Orderings.{Decides};
+ghost use Rattle.std.specs.Vec.{made};
+ghost use Rattle.std.specs.declared.result.Result.the-variants.{Ok};
 ghost use Rattle.letters.specs.Letters.{byte-of, letter-of};
 ghost use Rattle.letters.specs.Codes.{spelled, text-of};
-ghost use Rattle.texts.specs.Texts.{Begun};
+ghost use Rattle.texts.specs.Texts.{Begun, WrittenTo};
 use symbols::Symbol;
 use symbols::SymbolFault;
 use symbols::WireSymbol;
+use symbols::same;
 use texts::ShortText;
 use texts::TextFault;
 use texts::TextFromSymbol;
 use texts::TextSymbol;
 use texts::put;
 
-#[derive(Clone, Copy, Debug, PartialEq, Eq)]
+// The number of this kind.
+const KIND: u8 = 1;
+
+// The bytes that a letter takes.
+const WIDTH: usize = 1;
+
+#[derive(Clone, Copy, Debug)]
 pub enum Letter {
     Space = b' ' as isize,
     Exclamation = b'!' as isize,
@@ -232,6 +242,16 @@ impl Letter {
     }
 }
 
+pub impl PartialEq<Letter> for Letter as LetterPartialEq {
+    ghost equals = { λ a b r. Decides r (a ≡ b) };
+
+    fn eq(&self, other: &Letter) -> bool {
+        same(*self, *other)
+    }
+}
+
+pub impl Eq for Letter as LetterEq {}
+
 pub impl Symbol for Letter as LetterSymbol {
     ghost before = { λ a b. ltb (byte-of a) (byte-of b) };
 
@@ -256,11 +276,11 @@ pub impl WireSymbol for Letter as LetterWire {
     ghost reads = { λ bs. letter-of (getD bs 0 0) };
 
     fn kind() -> u8 {
-        1
+        KIND
     }
 
     fn width() -> usize {
-        1
+        WIDTH
     }
 
     fn write(self, out: &mut [u8]) {
@@ -284,13 +304,7 @@ pub impl TextSymbol for Letter as LetterText {
     }
 
     fn write_code(code: &[Letter], out: &mut [u8]) -> Result<usize, ShortText> {
-        if code.len() > out.len() {
-            return Err(ShortText);
-        }
-        for (i, letter) in code.iter().enumerate() {
-            out[i] = letter.to_byte();
-        }
-        Ok(code.len())
+        write_letters(code, out)
     }
 }
 
@@ -303,4 +317,18 @@ fn read_letters(from: &[u8], out: &mut [Letter]) -> Result<usize, TextFault>
         put(out, i, letter);
     }
     Ok(from.len())
+}
+
+// Writes the bytes of the letters of a code to the start of `out`, if there is room for all.
+fn write_letters(code: &[Letter], out: &mut [u8]) -> Result<usize, ShortText>
+    ensures answer { λ r. ⌜ WrittenTo (text-of (now (code .entry))) (now (out .entry)) r (now (out .exit)) ⌝ }
+    ensures back { λ r. ⌜ made r (λ _. spelled (text-of (now (code .entry))) ≡ Ok (now (code .entry))) ⌝ }
+{
+    if code.len() > out.len() {
+        return Err(ShortText);
+    }
+    for (i, letter) in code.iter().enumerate() {
+        out[i] = letter.to_byte();
+    }
+    Ok(code.len())
 }

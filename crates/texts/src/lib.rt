@@ -26,10 +26,10 @@ pub enum TextFault {
 }
 
 pub impl From<SymbolFault> for TextFault as TextFromSymbol {
-    ghost converts = { λ fault r. r ≡ symbol-fault fault };
+    ghost converts = { λ symbol r. r ≡ symbol-fault symbol };
 
-    fn from(fault: SymbolFault) -> TextFault {
-        TextFault::Symbol(fault)
+    fn from(symbol: SymbolFault) -> TextFault {
+        TextFault::Symbol(symbol)
     }
 }
 

@@ -26,8 +26,7 @@ loop-i-again c =
     let x = c .in-Continue-letter .letter in
     let more = filled-more code x (c .args .out .now) in
     let long = c .loop-i .inv .2 in
-    let was = c .loop-i .inv .3 in
-    (
+    let was = c .loop-i .inv .3 in (
       code ++ x ∷ [],
       spelled-more (c .args .from .now) code (c .loop-i .i) x (c .loop-i-test .taken) (c .loop-i .inv .1) (c .in-Continue-letter .ensures tt),
       length-push code x ∙ ap (λ n. n + 1) long,

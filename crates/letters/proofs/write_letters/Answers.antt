@@ -6,7 +6,7 @@ use Rattle.std.proofs.shelf.Lists.{take-all}
 use Rattle.letters.specs.Codes.{text-of}
 use Rattle.letters.specs.Letters.{byte-of}
 use Rattle.letters.proofs.Spelling.{text-back, written-more}
-use Rattle.letters.proofs.LetterText.write_code.Needs as need
+use Rattle.letters.proofs.write_letters.Needs as need
 
 pub returns-then-code-out : need.returns-then-code-out
 returns-then-code-out c = let long = length-map (c .args .code .now) byte-of in record { answer = (omega arith, refl); back = tt }
