@@ -4,3 +4,4 @@ pub mod Standing
 pub mod Clearing
 pub mod Runs
 pub mod Stepping
+pub mod Picking

@@ -14,7 +14,7 @@ use Rattle.ledger.specs.Ledger.{listed, number, lay, list-in, lists, codes, dow
 use Rattle.counting.specs.Picks.{Short}
 use Rattle.ledger.proofs.Rows.{listed-getD, known-held, number-good, list-number, lay-ledger}
 use Rattle.ledger.proofs.Drawn.{Pictured, pictured, lists-vertices-of}
-use Rattle.ledger.proofs.Parts.{lay-parts}
+use Rattle.ledger.proofs.Rows.{lay-parts}
 use Rattle.ledger.proofs.Downs.{down-sound}
 
 -- every code of a good number has at most 64 symbols

@@ -1,5 +1,5 @@
 -- Calls whose checks have passed take their steps.
-use mathlib.Core.Path.{_≡_, refl, _∙_}
+use mathlib.Core.Path.{_≡_, subst}
 use mathlib.Core.Bool.{Bool}
 use mathlib.Core.List.{List}
 use Prim.Native.Nat.{ℕ}
@@ -10,7 +10,11 @@ use Rattle.std.specs.declared.result.Result.the-variants.{Ok, Err}
 use Rattle.symbols.specs.Wire.{Travel}
 use Rattle.ledger.specs.Ledger.{codes}
 use Rattle.ledger.specs.Operations.{takes, join, added, removed}
+use Rattle.ledger.specs.declared.Vertex.{Vertex}
+use Rattle.memory.specs.declared.recall.Question.{Question}
+use Rattle.memory.specs.declared.shelf.Full.{Full}
 use Rattle.memory.specs.declared.work.Place.{Place}
+use Rattle.joining.specs.Recalled as recalled
 use Rattle.store.specs.declared.fault.Fault.{Fault}
 use Rattle.store.specs.State.{State}
 use Rattle.store.specs.Calls.{LaidDown, Adds, Removes, change-checks, JoinedDown, Joins, join-checks}
@@ -28,6 +32,12 @@ module _ {S : Type 0} (before : S → S → Bool) (capacity : ℕ) (s s′ : Sta
   removing laid =
       let step : Removes before capacity s list code work r s′ = then-comes (change-checks before capacity s list code work) r (s′ ≡ s) (LaidDown before capacity s (removed before (codes (s .vertices) list) code) r s′) passed laid in
       (step, record { ready = ready (st .ready); run = removes s list code work r (st .run) step })
+
+-- a join by the number of a rule
+pub joins-at : {S : Type 0} (before : S → S → Bool) (capacity rule number first second : ℕ) (vs : List (Vertex S)) (table : Question → Option ℕ) (r : Result ℕ Full) (ws : List (Vertex S)) (after : Question → Option ℕ) →
+    number ≡ rule → recalled.Joins before capacity number first second vs table r ws after → recalled.Joins before capacity rule first second vs table r ws after
+joins-at before capacity rule number first second vs table r ws after e j =
+    subst (λ (k : ℕ). recalled.Joins before capacity k first second vs table r ws after) e j
 
 module _ {S : Type 0} (before : S → S → Bool) (capacity : ℕ) (s s′ : State S) (rule first second : ℕ) (work : List Place) (r : Result ℕ Fault)
     (passed : join-checks before capacity s rule first second work ≡ None) (travel : Option (Travel S)) (Ready Ready′ : Type 0) (st : Stands before travel capacity Ready s) (ready : Ready → Ready′) where

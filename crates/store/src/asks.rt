@@ -9,10 +9,10 @@ ghost use Rattle.store.specs.State.{state};
 ghost use Rattle.store.specs.Calls.{Looks, Holds, Unders, CountsCodes, CountsVertices, Picks};
 ghost use Rattle.store.specs.Run.{Asks};
 use crate::fault::Fault;
+use crate::fault::FaultFromPick;
 use crate::store::check_code;
 use crate::store::check_output;
 use crate::store::Store;
-use counting::picking::PickFault;
 use memory::recall::RecallTable;
 use memory::shelf::Shelf;
 use memory::work::Place;
@@ -75,10 +75,7 @@ impl<S: Symbol, B: Shelf<S>, R: RecallTable> Store<S, B, R> {
         self.check_list(0, list)?;
         check_output(out)?;
         self.check_work(work)?;
-        match counting::picking::pick(&self.shelf, list, k, out, work) {
-            Ok(length) => Ok(length),
-            Err(PickFault::TooMany) => Err(Fault::TooManyCodes),
-            Err(PickFault::NoSuchCode) => Err(Fault::NoSuchCode),
-        }
+        let length = counting::picking::pick(&self.shelf, list, k, out, work)?;
+        Ok(length)
     }
 }

@@ -1,6 +1,7 @@
 // Why a call of the store is refused.
 ghost use mathlib.Core.Path.{_≡_};
-ghost use Rattle.store.specs.Refusals.{refusal};
+ghost use Rattle.store.specs.Refusals.{refusal, from-pick};
+use counting::picking::PickFault;
 
 #[derive(Clone, Copy, Debug, PartialEq, Eq)]
 pub enum Fault {
@@ -20,6 +21,17 @@ pub enum Fault {
     NoSuchCode,
     // The shelf has too few places left.
     ShelfFull,
+}
+
+pub impl From<PickFault> for Fault as FaultFromPick {
+    ghost converts = { λ e r. r ≡ from-pick e };
+
+    fn from(e: PickFault) -> Fault {
+        match e {
+            PickFault::TooMany => Fault::TooManyCodes,
+            PickFault::NoSuchCode => Fault::NoSuchCode,
+        }
+    }
 }
 
 // A refusal as it is told: its number, and what it carries.
