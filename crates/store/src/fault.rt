@@ -1,6 +1,7 @@
 // Why a call of the store is refused.
 ghost use mathlib.Core.Path.{_≡_};
 ghost use Rattle.store.specs.Refusals.{refusal};
+use symbols::Refusal;
 
 #[derive(Clone, Copy, Debug, PartialEq, Eq)]
 pub enum Fault {
@@ -22,13 +23,6 @@ pub enum Fault {
     ShelfFull,
 }
 
-// A refusal as it is told: its number, and what it carries.
-#[derive(Clone, Copy, Debug, PartialEq, Eq)]
-pub struct Refusal {
-    pub number: u8,
-    pub detail: usize,
-}
-
 impl Fault {
     pub fn refusal(self) -> Refusal
         ensures { λ r. ⌜ r ≡ refusal self ⌝ }
@@ -43,6 +37,10 @@ impl Fault {
             Fault::NoSuchCode => (7, 0),
             Fault::ShelfFull => (9, 0),
         };
-        Refusal { number, detail }
+        Refusal {
+            number,
+            detail,
+            symbol: None,
+        }
     }
 }
