@@ -1,16 +1,13 @@
 -- The number of each refusal, and what it carries.
-use Prim.Native.Nat.{ℕ}
 use Rattle.counting.specs.declared.picking.PickFault.{PickFault}
 use Rattle.counting.specs.declared.picking.PickFault.the-variants as pick
 use Rattle.store.specs.declared.fault.Fault.{Fault}
 use Rattle.store.specs.declared.fault.Fault.the-variants.{NoSuchList, CodeTooLong, NoSuchRule, ShortOutput, LittleWork, TooManyCodes, NoSuchCode, ShelfFull}
-use Rattle.store.specs.declared.fault.Refusal.{Refusal}
-
-abbrev pub plain : ℕ → Refusal
-plain n = record { number = n; detail = 0 }
+use Rattle.symbols.specs.declared.Refusal.{Refusal}
+use Rattle.symbols.specs.Refusals.{carrying, plain}
 
 abbrev pub refusal : Fault → Refusal
-refusal (NoSuchList place) = record { number = 2; detail = place }
+refusal (NoSuchList place) = carrying 2 place
 refusal CodeTooLong = plain 4
 refusal NoSuchRule = plain 5
 refusal ShortOutput = plain 8

@@ -2,6 +2,7 @@
 ghost use mathlib.Core.Path.{_≡_};
 ghost use Rattle.store.specs.Refusals.{refusal, from-pick};
 use counting::picking::PickFault;
+use symbols::Refusal;
 
 #[derive(Clone, Copy, Debug, PartialEq, Eq)]
 pub enum Fault {
@@ -34,13 +35,6 @@ pub impl From<PickFault> for Fault as FaultFromPick {
     }
 }
 
-// A refusal as it is told: its number, and what it carries.
-#[derive(Clone, Copy, Debug, PartialEq, Eq)]
-pub struct Refusal {
-    pub number: u8,
-    pub detail: usize,
-}
-
 impl Fault {
     pub fn refusal(self) -> Refusal
         ensures { λ r. ⌜ r ≡ refusal self ⌝ }
@@ -55,6 +49,10 @@ impl Fault {
             Fault::NoSuchCode => (7, 0),
             Fault::ShelfFull => (9, 0),
         };
-        Refusal { number, detail }
+        Refusal {
+            number,
+            detail,
+            symbol: None,
+        }
     }
 }

@@ -10,6 +10,7 @@ ghost use mathlib.Core.Logic.{_↔_};
 ghost use mathlib.Core.Path.{_≡_};
 ghost use Rattle.std.specs.declared.result.Result.{Result};
 ghost use Rattle.symbols.specs.Order.{Order, OneBefore};
+ghost use Rattle.symbols.specs.Refusals.{symbol-refusal};
 ghost use Rattle.symbols.specs.Wire.{WireLaws};
 ghost use Rattle.symbols.specs.declared.SymbolFault.{SymbolFault};
 
@@ -17,6 +18,27 @@ ghost use Rattle.symbols.specs.declared.SymbolFault.{SymbolFault};
 #[derive(Clone, Copy, Debug, PartialEq, Eq)]
 pub struct SymbolFault {
     pub byte: u8,
+}
+
+// A refusal as it is told: its number, what it carries, and the symbol's own refusal where it carries that whole.
+#[derive(Clone, Copy)]
+pub struct Refusal {
+    pub number: u8,
+    pub detail: usize,
+    pub symbol: Option<SymbolFault>,
+}
+
+impl SymbolFault {
+    // Refusal 1, with the byte.
+    pub fn refusal(self) -> Refusal
+        ensures { λ r. ⌜ r ≡ symbol-refusal self ⌝ }
+    {
+        Refusal {
+            number: 1,
+            detail: self.byte as usize,
+            symbol: None,
+        }
+    }
 }
 
 // A symbol of some kind: it comes before others of its kind, or not, and has a number to scatter by.

@@ -1,0 +1,4 @@
+pub mod Heads
+pub mod Refusals
+pub mod Records
+pub mod Written
