@@ -63,18 +63,18 @@ pub impl<'a, S: Symbol> Shelf<S> for RowShelf<'a, S> as RowShelfShelf {
     }
 
     fn append(&mut self, label: S, zero: u32, one: u32) -> Result<u32, Full> {
-        let capacity = run::capacity(self.run.len());
-        let used = self.used.min(capacity);
-        if used >= capacity {
-            return Err(Full);
+        let used = self.used;
+        match run::append(self.run, used, Vertex { label, zero, one }) {
+            Ok(more) => {
+                self.used = more;
+                Ok(more + 1)
+            }
+            Err(full) => Err(full),
         }
-        run::put(self.run, used, Vertex { label, zero, one });
-        self.used = used + 1;
-        Ok(used + 2)
     }
 
     fn cut(&mut self, n: u32) {
-        self.used = self.used.min(n);
+        self.used = run::cut::<S>(self.used, n);
     }
 
     fn gather(&mut self, marks: &mut [Place]) -> bool {

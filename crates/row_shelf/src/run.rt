@@ -1,23 +1,25 @@
 // What the shelf does, on the run of records that it is handed: the first `used` of them are its vertices.
-ghost use Prim.Native.Nat.{ℕ, _+_, _<_, _≤_, min};
-ghost use lib.ListN.{length, take, set};
+ghost use Prim.Native.Nat.{ℕ, _≤_, min};
+ghost use lib.ListN.{length, take};
 ghost use mathlib.Core.Bool.{true};
 ghost use mathlib.Core.List.{List, map};
 ghost use mathlib.Core.Logic.{_↔_};
 ghost use mathlib.Core.Path.{_≡_};
 ghost use Rattle.std.specs.Options.{mapped};
+ghost use Rattle.ledger.specs.declared.Vertex.{Vertex};
 ghost use Rattle.ledger.specs.Diagrams.{look, parts};
 ghost use Rattle.ledger.specs.Gather.{keep};
 ghost use Rattle.ledger.specs.Laid.{First};
 ghost use Rattle.memory.specs.Marks.{noted-vertex, AllStay};
 ghost use Rattle.memory.specs.Shelves.{marks-in};
-ghost use Rattle.row_shelf.specs.Row.{Gathers};
+ghost use Rattle.row_shelf.specs.Row.{row-vertices, Gathers, RowAppends};
 use ledger::Vertex;
 use memory::marks::is_marked;
 use memory::marks::new_vertex;
 use memory::marks::number_marks;
 use memory::marks::vertex_stays;
 use memory::reading::same_vertex;
+use memory::shelf::Full;
 use memory::work::Place;
 use symbols::Symbol;
 
@@ -54,11 +56,24 @@ pub fn find<S: Symbol>(run: &[Vertex<S>], used: u32, wanted: Vertex<S>) -> Optio
     None
 }
 
-pub fn put<S: Symbol>(run: &mut [Vertex<S>], at: u32, v: Vertex<S>)
-    requires { ⌜ at < length (now run) ⌝ }
-    ensures { λ _. ⌜ now (run .exit) ≡ set (now (run .entry)) at v ⌝ }
+// Writes the vertex past the used records, and says how many are used then; refused where there is no place.
+pub fn append<S: Symbol>(run: &mut [Vertex<S>], used: u32, vertex: Vertex<S>) -> Result<u32, Full>
+    ensures { λ r. ⌜ RowAppends used (now (run .entry)) vertex r (now (run .exit)) ⌝ }
 {
-    run[at as usize] = v;
+    let capacity = capacity(run.len());
+    let used = used.min(capacity);
+    if used >= capacity {
+        return Err(Full);
+    }
+    run[used as usize] = vertex;
+    Ok(used + 1)
+}
+
+// How many records are used after a cut: of whatever run, its first n vertices.
+pub fn cut<S: Symbol>(used: u32, n: u32) -> u32
+    ensures { λ r. ⌜ ((run : List (Vertex S)) → row-vertices r run ≡ take n (row-vertices used run)) ⌝ }
+{
+    used.min(n)
 }
 
 // Whether each marked vertex has links to terminals and to marked vertices below it alone.
