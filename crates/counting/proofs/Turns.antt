@@ -62,26 +62,29 @@ module _ {S : Type 0} (before : S → S → Bool) (order : Order before) (vs : L
           let one-low = formed .one-below (spot .list) (l .0) (l .1) in
           (omega arith, omega arith)
 
-      -- the one link's codes, as they were counted
-      pub inner-counted : (inner : Tally) → inner ≡ held (getD work (t .2) vacant) → Counted (length (ordered (codes vs (t .2)))) (inner .codes)
-      inner-counted inner is =
-          let low = links-low .1 in
-          subst⁻¹ (λ (r : Tally). Counted (length (ordered (codes vs (t .2)))) (r .codes)) is (tallied (t .2) (omega arith) .many)
+      -- the one link's codes were counted, and there are more of them than are left to pass by, or not
+      module _ (inner : Tally) (inner-is : inner ≡ held (getD work (t .2) vacant)) where
+        counted : Counted (length (ordered (codes vs (t .2)))) (inner .codes)
+        counted =
+            let low = links-low .1 in
+            subst⁻¹ (λ (r : Tally). Counted (length (ordered (codes vs (t .2)))) (r .codes)) inner-is (tallied (t .2) (omega arith) .many)
 
-      pub turn-takes : later < length (ordered (codes vs (t .2))) → Leads vs spot (Takes (t .0) (record { list = t .2; before = later }))
-      turn-takes h =
-          let low = links-low .1 in
-          let good = stands .0 in
-          ((omega arith, h), turn-inner (codes vs (spot .list)) (t .0) (codes vs (t .1)) (codes vs (t .2)) begins (spot .before) later past h)
+        pub turn-takes : ((n : ℕ) → Counted n (inner .codes) → later < n) → Leads vs spot (Takes (t .0) (record { list = t .2; before = later }))
+        turn-takes fewer =
+            let low = links-low .1 in
+            let good = stands .0 in
+            let h = fewer (length (ordered (codes vs (t .2)))) counted in
+            ((omega arith, h), turn-inner (codes vs (spot .list)) (t .0) (codes vs (t .1)) (codes vs (t .2)) begins (spot .before) later past h)
 
-      pub turn-passes : (left : ℕ) → later ≡ length (ordered (codes vs (t .2))) + left → Leads vs spot (Passes (record { list = t .1; before = empty + left }))
-      turn-passes left from =
-          let low = links-low .0 in
-          let good = stands .0 in
-          let same : boolByte (blank-in (codes vs (spot .list))) + left ≡ empty + left = ap (λ m. m + left) (sym empties) in (
-            (omega arith, subst (λ m. m < length (ordered (codes vs (t .1)))) same (outer-stands (codes vs (spot .list)) (t .0) (codes vs (t .1)) (codes vs (t .2)) begins (spot .before) later past left from (stands .1))),
-            turn-outer (codes vs (spot .list)) (t .0) (codes vs (t .1)) (codes vs (t .2)) begins (spot .before) later past left from ∙ ap (nth (ordered (codes vs (t .1)))) same,
-          )
+        pub turn-passes : (left : ℕ) → ((n : ℕ) → Counted n (inner .codes) → later ≡ n + left) → Leads vs spot (Passes (record { list = t .1; before = empty + left }))
+        turn-passes left more =
+            let low = links-low .0 in
+            let good = stands .0 in
+            let from = more (length (ordered (codes vs (t .2)))) counted in
+            let same : boolByte (blank-in (codes vs (spot .list))) + left ≡ empty + left = ap (λ m. m + left) (sym empties) in (
+              (omega arith, subst (λ m. m < length (ordered (codes vs (t .1)))) same (outer-stands (codes vs (spot .list)) (t .0) (codes vs (t .1)) (codes vs (t .2)) begins (spot .before) later past left from (stands .1))),
+              turn-outer (codes vs (spot .list)) (t .0) (codes vs (t .1)) (codes vs (t .2)) begins (spot .before) later past left from ∙ ap (nth (ordered (codes vs (t .1)))) same,
+            )
 
 drop-on : {A : Type 0} (m n : ℕ) (xs ys : List A) → m ≤ n → drop m xs ≡ drop m ys → drop n xs ≡ drop n ys
 drop-on m n xs ys h e =

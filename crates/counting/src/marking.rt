@@ -2,7 +2,6 @@
 // that are reached, and counts them as it comes to them; a pass before it takes the marks off.
 ghost use Prim.Native.Nat.{_+_, _<_};
 ghost use lib.ListN.{length, getD, set};
-ghost use mathlib.Core.Bool.{true, false};
 ghost use mathlib.Core.Path.{_≡_};
 ghost use Rattle.ledger.specs.Diagrams.{Counts, Formed, Reached};
 ghost use Rattle.memory.specs.Shelves.{is-mark};

@@ -1,5 +1,6 @@
 // Which code of a list has a given number of codes before it. The lists up to this one are tallied first. Then one walk
-// goes down the links: each turn ends the code, takes the label or passes it by, as the tallies tell.
+// goes down the links: each turn ends the code, takes the label or passes it by, as the tallies tell. Each turn leads to
+// a lower number, and no more than 64 labels are taken, so the walk is short and stays in the output on any memory.
 ghost use Prim.Native.Nat.{ℕ, _+_, _<_, _≤_};
 ghost use lib.ListN.{length, drop, set};
 ghost use mathlib.Core.Path.{_≡_};
@@ -84,6 +85,7 @@ fn turn_at<S: Symbol, B: Shelf<S>>(shelf: &B, spot: Spot, work: &[Place]) -> Tur
     })
 }
 
+// Writes one symbol.
 fn put<S: Symbol>(out: &mut [S], at: usize, symbol: S)
     requires { ⌜ at < length (now out) ⌝ }
     ensures { λ _. ⌜ now (out .exit) ≡ set (now (out .entry)) at symbol ⌝ }

@@ -1,8 +1,6 @@
-use mathlib.Core.Path.{_≡_}
-use Prim.Native.Nat.{_+_}
 use native.Mathlib.Omega.{arith}
 use Rattle.memory.proofs.Looks.{unlooked}
-use Rattle.counting.proofs.Turns.{turn-terminal, turn-empty, inner-counted, turn-takes, turn-passes}
+use Rattle.counting.proofs.Turns.{turn-terminal, turn-empty, turn-takes, turn-passes}
 use Rattle.counting.proofs.picking.turn_at.Needs as need
 
 pub add-result : need.add-result
@@ -34,15 +32,10 @@ returns-in-rest-left-of g c =
       below = c .in-Some .ensures tt .below .2;
       value = λ sound tallied stands.
           let sub = c .in-Some-checked-sub .ensures tt in
-          let at-k : c .args .spot .before ≡ c .from-empty .result + c .in-Some-checked-sub .later = omega arith in
-          let read = c .in-Some .ensures tt .value (sound .formed) in
           turn-takes (g .S·Symbol .before) (g .S·Symbol·met .ordered) (g .B·Shelf .vertices (c .args .shelf .now)) (sound .formed) (c .args .spot) stands
           (c .args .work .now) tallied (c .tally-at .result) (c .tally-at .ensures) (c .from-empty .result) (c .from-empty .ensures)
-          _ read (c .in-Some-checked-sub .later) at-k
-          (c .in-rest-left-of .ensures tt .value _
-          (inner-counted (g .S·Symbol .before) (g .S·Symbol·met .ordered) (g .B·Shelf .vertices (c .args .shelf .now)) (sound .formed) (c .args .spot) stands
-          (c .args .work .now) tallied (c .tally-at .result) (c .tally-at .ensures) (c .from-empty .result) (c .from-empty .ensures)
-          _ read (c .in-Some-checked-sub .later) at-k (c .tally-at-2 .result) (c .tally-at-2 .ensures)));
+          _ (c .in-Some .ensures tt .value (sound .formed)) (c .in-Some-checked-sub .later) (omega arith)
+          (c .tally-at-2 .result) (c .tally-at-2 .ensures) (c .in-rest-left-of .ensures tt .value);
     }
 
 pub returns : need.returns
@@ -51,13 +44,8 @@ returns g c =
       below = c .in-Some .ensures tt .below .1;
       value = λ sound tallied stands.
           let sub = c .in-Some-checked-sub .ensures tt in
-          let at-k : c .args .spot .before ≡ c .from-empty .result + c .in-Some-checked-sub .later = omega arith in
-          let read = c .in-Some .ensures tt .value (sound .formed) in
           turn-passes (g .S·Symbol .before) (g .S·Symbol·met .ordered) (g .B·Shelf .vertices (c .args .shelf .now)) (sound .formed) (c .args .spot) stands
           (c .args .work .now) tallied (c .tally-at .result) (c .tally-at .ensures) (c .from-empty .result) (c .from-empty .ensures)
-          _ read (c .in-Some-checked-sub .later) at-k (c .in-Some-left-of .left)
-          (c .in-Some-left-of .ensures tt .value _
-          (inner-counted (g .S·Symbol .before) (g .S·Symbol·met .ordered) (g .B·Shelf .vertices (c .args .shelf .now)) (sound .formed) (c .args .spot) stands
-          (c .args .work .now) tallied (c .tally-at .result) (c .tally-at .ensures) (c .from-empty .result) (c .from-empty .ensures)
-          _ read (c .in-Some-checked-sub .later) at-k (c .tally-at-2 .result) (c .tally-at-2 .ensures)));
+          _ (c .in-Some .ensures tt .value (sound .formed)) (c .in-Some-checked-sub .later) (omega arith)
+          (c .tally-at-2 .result) (c .tally-at-2 .ensures) (c .in-Some-left-of .left) (c .in-Some-left-of .ensures tt .value);
     }
