@@ -17,8 +17,7 @@ use Rattle.ledger.proofs.Drawn.{codes-proper}
 use Rattle.ledger.proofs.Parts.{reached-many}
 use Rattle.ledger.proofs.Gathering.{sound-empty}
 use Rattle.ledger.proofs.Downs.{is-laid}
-use Rattle.ledger.proofs.Settling.{lists-long}
-use Rattle.ledger.proofs.Changing.{same-lists}
+use Rattle.ledger.proofs.Draws.{lists-long, same-lists}
 
 module _ {S : Type 0} (before : S → S → Bool) (order : Order before) where
   leads-down : (vs : List (Vertex S)) → Sound before vs → {n k : ℕ} → LeadsTo vs n k → k < n
@@ -39,14 +38,16 @@ module _ {S : Type 0} (before : S → S → Bool) (order : Order before) where
   pub written : (t : Codes S) → Proper before t → Laid before [] t (fresh before t .drawn) (fresh before t .root)
   written t p = is-laid before order [] t (sound-empty before order) p
 
+  pub written-long : (t : Codes S) → Proper before t → length (lay before [] t) ≡ length (fresh before t .drawn)
+  written-long t p = ap length (sym (written t p .row)) ∙ lists-long before order (fresh before t .drawn)
+
   pub attained : (vs : List (Vertex S)) → Sound before vs → (n : ℕ) → Good vs n →
       LeastDiagram before vs n (fresh before (codes vs n) .drawn) (fresh before (codes vs n) .root)
   attained vs s n g =
       let l = written (codes vs n) (codes-proper before order vs s n g) in
-      let long : length (lay before [] (codes vs n)) ≡ length (fresh before (codes vs n) .drawn) = ap length (sym (l .row)) ∙ lists-long before order (fresh before (codes vs n) .drawn) in
       record {
         diagram = sound-diagram (fresh before (codes vs n) .drawn) (l .sound);
         good = l .good;
-        same = same-lists before order vs (fresh before (codes vs n) .drawn) s (l .sound) n (fresh before (codes vs n) .root) g (l .good) (sym (l .is));
-        reached = subst (Counts (Reached vs n)) long (reached-many before order vs s n g);
+        same = same-lists before order vs (fresh before (codes vs n) .drawn) (s .formed) (l .sound .formed) n (fresh before (codes vs n) .root) g (l .good) (sym (l .is));
+        reached = subst (Counts (Reached vs n)) (written-long (codes vs n) (codes-proper before order vs s n g)) (reached-many before order vs s n g);
       }

@@ -10,29 +10,23 @@ use Rattle.std.specs.declared.option.Option.the-variants.{Some}
 use Rattle.symbols.specs.Order.{Order}
 use Rattle.ledger.specs.Lists.{Codes, none, blank, begun, Member, Proper, Part}
 use Rattle.ledger.specs.declared.Vertex.{Vertex}
-use Rattle.ledger.specs.Diagrams.{look, Has, SameCodes, Good, Sound, Reached, itself, over-zero, over-one}
+use Rattle.ledger.specs.Diagrams.{look, Has, Good, Sound, Reached, itself, over-zero, over-one}
 use Rattle.ledger.specs.Ledger.{listed, number, lay, lists, codes, down, down-number}
 use Rattle.ledger.specs.Laid.{Laid, Placed, laying}
 use Rattle.ledger.specs.Gather.{Marked, Whole, Keeps}
 use Rattle.ledger.specs.Statements.{Numbered, LaidDown, ClearedOut, ClearingOut}
 use Rattle.ledger.proofs.Canon.{Kind, is-0, is-1, is-vertex, kind, vertex-good}
 use Rattle.ledger.proofs.Sets.{proper-same}
-use Rattle.ledger.proofs.Rows.{Known, number-good, list-number, known-list, known-laid, lay-knows, lay-ledger}
+use Rattle.ledger.proofs.Rows.{Known, number-good, list-number, known-list, known-laid, lay-parts, lay-knows, lay-ledger}
 use Rattle.ledger.proofs.Drawn.{pictured, codes-proper, has-member, member-has}
-use Rattle.ledger.proofs.Parts.{lay-parts, known-part}
+use Rattle.ledger.proofs.Parts.{known-part}
 use Rattle.ledger.proofs.Gathering.{cleared}
 use Rattle.ledger.proofs.Downs.{is-laid}
 use Rattle.ledger.proofs.Marks.{some-marks, only-marks}
-use Rattle.ledger.proofs.Settling.{lists-long, codes-front, laying-is, laying-more, laying-self}
+use Rattle.ledger.proofs.Draws.{lists-long, codes-front, same-lists}
+use Rattle.ledger.proofs.Settling.{laying-is, laying-more, laying-self}
 
 module _ {S : Type 0} (before : S → S → Bool) (order : Order before) where
-  -- equal lists have the same codes
-  pub same-lists : (vs ws : List (Vertex S)) → Sound before vs → Sound before ws → (m n : ℕ) → Good vs m → Good ws n → codes vs m ≡ codes ws n → SameCodes vs m ws n
-  same-lists vs ws sv sw m n gm gn e c = (
-    λ h. member-has before order ws sw n gn c (subst (λ t. Member t c) e (has-member before order vs sv h)),
-    λ h. member-has before order vs sv m gm c (subst⁻¹ (λ t. Member t c) e (has-member before order ws sw h)),
-  )
-
   module _ (vs : List (Vertex S)) (sound : Sound before vs) (t : Codes S) (proper : Proper before t) where
     is : laying before vs t ≡ (down before vs t, down-number before vs t)
     is = laying-is before order vs t sound proper
@@ -89,7 +83,7 @@ module _ {S : Type 0} (before : S → S → Bool) (order : Order before) where
           appended = appended;
           old = λ m g.
               let more : Good (down before vs t) m = subst⁻¹ (λ ws. Good ws m) (appended .1) (omega (arith, length-append vs (appended .0))) in
-              same-lists vs (down before vs t) sound (l .sound) m m g more (sym (codes-front before order vs (appended .0) m g) ∙ ap (λ ws. codes ws m) (sym (appended .1)));
+              same-lists before order vs (down before vs t) (sound .formed) (l .sound .formed) m m g more (sym (codes-front before order vs (appended .0) m g) ∙ ap (λ ws. codes ws m) (sym (appended .1)));
           good = l .good;
           codes-are = λ c. (
             λ h. subst (λ u. Member u c) (l .is) (has-member before order (down before vs t) (l .sound) h),

@@ -1,23 +1,23 @@
 -- Rows of vertices and rows of lists say the same: vertices drawn from a ledger's lists draw those lists, and a sound row of vertices draws a ledger.
-use mathlib.Core.Path.{_≡_, refl, sym, ap, ap₂, subst, _∙_}
+use mathlib.Core.Path.{_≡_, refl, sym, ap, ap₂, _∙_}
 use mathlib.Core.Bool.{Bool, true, false}
 use mathlib.Core.List.{List, [], _∷_, _++_}
 use mathlib.Core.Logic.{_↔_, _⊎_, inl, inr}
-use Prim.Native.Nat.{ℕ, zero, suc, _+_, _≤_, _<_}
+use Prim.Native.Nat.{ℕ, zero, suc, _+_, _≤_}
 use native.Mathlib.Omega.{arith}
 use lib.ListN.{length}
 use Rattle.std.specs.declared.option.Option.the-variants.{Some}
 use Rattle.symbols.specs.Order.{Order}
 use Rattle.ledger.specs.Lists.{Codes, none, blank, begun, Member, Comes, Some-code, Proper}
 use Rattle.ledger.specs.declared.Vertex.{Vertex}
-use Rattle.ledger.specs.Diagrams.{look, Has, ends, passes, takes, SameCodes, Good, Sound, Formed}
+use Rattle.ledger.specs.Diagrams.{look, Has, SameCodes, Good, Sound, Formed}
 use Rattle.ledger.specs.Ledger.{listed, position, number, lay, list-in, lists, codes, vertices-in, vertices-of, Drawing, fresh}
 use Rattle.ledger.proofs.Reading.{none-some}
 use Rattle.ledger.proofs.Canon.{Kind, is-0, is-1, is-vertex, kind}
 use Rattle.ledger.proofs.Sets.{proper-same}
 use Rattle.ledger.proofs.Ends.{nth-front, nth-last, nth-cases, by-ends}
 pub use Rattle.ledger.proofs.Draws.{draw-append}
-use Rattle.ledger.proofs.Draws.{lists-long, codes-formed}
+use Rattle.ledger.proofs.Draws.{lists-long, codes-formed, formed-member, member-formed, same-lists}
 use Rattle.ledger.proofs.Rows.{both-ways, Known, Ledger, empty-row, one-more, known-front, number-front, list-number, known-list, known-proper, number-list, position-below, getD-position, lay-ledger, lay-knows}
 
 -- each list of ts comes with its outer and inner list in the row
@@ -226,25 +226,10 @@ module _ {S : Type 0} (before : S → S → Bool) (order : Order before) where
 
   -- the codes of a number are those of its list
   pub has-member : (vs : List (Vertex S)) → Sound before vs → {n : ℕ} {c : List S} → Has vs n c → Member (codes vs n) c
-  has-member vs s (ends e f) = rw e f
-  has-member vs s {n} {c} (passes v p h) = rw (pictured vs s .unfolds n v p) (inl (has-member vs s h))
-  has-member vs s {n} {c} (takes v rest p e h) = rw (pictured vs s .unfolds n v p) (inr (rest, e, has-member vs s h))
-
-  member-upto : (vs : List (Vertex S)) → Sound before vs → (b n : ℕ) → n < b → Good vs n → (c : List S) → Member (codes vs n) c → Has vs n c
-  member-upto vs s zero n h g c m = absurd (omega arith)
-  member-upto vs s (suc b) n h g c m = by (kind vs n g) (member-upto vs s b)
-    where
-      by : Kind vs n → ((k : ℕ) → k < b → Good vs k → (c : List S) → Member (codes vs k) c → Has vs k c) → Has vs n c
-      by (is-0 e) below = absurd (rw e at m)
-      by (is-1 e) below = ends e (rw e at m)
-      by (is-vertex v p) below = split (rw (pictured vs s .unfolds n v p) at m)
-        where
-          split : Member (begun (v .label) (codes vs (v .zero)) (codes vs (v .one))) c → Has vs n c
-          split (inl k) = let z = s .formed .zero-below n v p in passes v p (below (v .zero) (omega arith) (omega arith) c k)
-          split (inr k) = let o = s .formed .one-below n v p in takes v (k .0) p (k .1) (below (v .one) (omega arith) (omega arith) (k .0) (k .2))
+  has-member vs s h = formed-member before order vs (s .formed) h
 
   pub member-has : (vs : List (Vertex S)) → Sound before vs → (n : ℕ) → Good vs n → (c : List S) → Member (codes vs n) c → Has vs n c
-  member-has vs s n g c m = member-upto vs s (suc n) n (omega arith) g c m
+  member-has vs s n g c m = member-formed before order vs (s .formed) n g c m
 
   pub codes-proper : (vs : List (Vertex S)) → Sound before vs → (n : ℕ) → Good vs n → Proper before (codes vs n)
   codes-proper vs s n g = let P = pictured vs s in known-proper before order (P .ledger) _ (known-list before order (lists vs) n (omega (arith, P .long)))
@@ -263,11 +248,9 @@ module _ {S : Type 0} (before : S → S → Bool) (order : Order before) where
   written-alike vs ws sv sw m n gm gn = (there, back)
     where
       there : fresh before (codes vs m) ≡ fresh before (codes ws n) → SameCodes vs m ws n
-      there e c =
-          let one : codes vs m ≡ codes ws n = fresh-same (codes vs m) (codes ws n) (codes-proper vs sv m gm) (codes-proper ws sw n gn) e in (
-            λ h. member-has ws sw n gn c (subst (λ t. Member t c) one (has-member vs sv h)),
-            λ h. member-has vs sv m gm c (subst (λ t. Member t c) (sym one) (has-member ws sw h)),
-          )
+      there e =
+          same-lists before order vs ws (sv .formed) (sw .formed) m n gm gn
+          (fresh-same (codes vs m) (codes ws n) (codes-proper vs sv m gm) (codes-proper ws sw n gn) e)
 
       back : SameCodes vs m ws n → fresh before (codes vs m) ≡ fresh before (codes ws n)
       back alike =

@@ -10,9 +10,9 @@ use lib.ListN.{length}
 use Rattle.std.specs.Finite.{nth}
 use Rattle.std.specs.declared.option.Option.the-variants.{Some, None}
 use Rattle.symbols.specs.Order.{Order}
-use Rattle.ledger.specs.Lists.{Codes, none, begun}
+use Rattle.ledger.specs.Lists.{Codes, none, begun, Member}
 use Rattle.ledger.specs.declared.Vertex.{Vertex}
-use Rattle.ledger.specs.Diagrams.{look, Good, Formed}
+use Rattle.ledger.specs.Diagrams.{look, Has, ends, passes, takes, SameCodes, Good, Formed}
 use Rattle.ledger.specs.Ledger.{list-in, draw, lists, codes}
 use Rattle.ledger.proofs.Reading.{none-some, some-same}
 use Rattle.ledger.proofs.Canon.{Kind, is-0, is-1, is-vertex, kind}
@@ -92,3 +92,32 @@ module _ {S : Type 0} (before : S → S → Bool) (order : Order before) where
   pub codes-formed : (vs : List (Vertex S)) → Formed before vs → (n : ℕ) (v : Vertex S) → look vs n ≡ Some v →
       codes vs n ≡ begun (v .label) (codes vs (v .zero)) (codes vs (v .one))
   codes-formed vs f n v e = codes-unfold vs n v e (f .zero-below n v e) (f .one-below n v e)
+
+  -- the codes read off well formed vertices are the members of the list
+  pub formed-member : (vs : List (Vertex S)) → Formed before vs → {n : ℕ} {c : List S} → Has vs n c → Member (codes vs n) c
+  formed-member vs f (ends e g) = rw e g
+  formed-member vs f {n} {c} (passes v p h) = rw (codes-formed vs f n v p) (inl (formed-member vs f h))
+  formed-member vs f {n} {c} (takes v rest p e h) = rw (codes-formed vs f n v p) (inr (rest, e, formed-member vs f h))
+
+  member-upto : (vs : List (Vertex S)) → Formed before vs → (b n : ℕ) → n < b → Good vs n → (c : List S) → Member (codes vs n) c → Has vs n c
+  member-upto vs f zero n h g c m = absurd (omega arith)
+  member-upto vs f (suc b) n h g c m = by (kind vs n g) (member-upto vs f b)
+    where
+      by : Kind vs n → ((k : ℕ) → k < b → Good vs k → (c : List S) → Member (codes vs k) c → Has vs k c) → Has vs n c
+      by (is-0 e) below = absurd (rw e at m)
+      by (is-1 e) below = ends e (rw e at m)
+      by (is-vertex v p) below = split (rw (codes-formed vs f n v p) at m)
+        where
+          split : Member (begun (v .label) (codes vs (v .zero)) (codes vs (v .one))) c → Has vs n c
+          split (inl k) = let z = f .zero-below n v p in passes v p (below (v .zero) (omega arith) (omega arith) c k)
+          split (inr k) = let o = f .one-below n v p in takes v (k .0) p (k .1) (below (v .one) (omega arith) (omega arith) (k .0) (k .2))
+
+  pub member-formed : (vs : List (Vertex S)) → Formed before vs → (n : ℕ) → Good vs n → (c : List S) → Member (codes vs n) c → Has vs n c
+  member-formed vs f n g c m = member-upto vs f (suc n) n (omega arith) g c m
+
+  -- equal lists have the same codes
+  pub same-lists : (vs ws : List (Vertex S)) → Formed before vs → Formed before ws → (m n : ℕ) → Good vs m → Good ws n → codes vs m ≡ codes ws n → SameCodes vs m ws n
+  same-lists vs ws fv fw m n gm gn e c = (
+    λ h. member-formed ws fw n gn c (subst (λ t. Member t c) e (formed-member vs fv h)),
+    λ h. member-formed vs fv m gm c (subst (λ t. Member t c) (sym e) (formed-member ws fw h)),
+  )

@@ -1,7 +1,7 @@
 -- The vertices of a ledger are sound, and keeping marked vertices keeps the marked lists.
 use mathlib.Core.Path.{_≡_, refl, sym, ap, ap₂, subst, subst⁻¹, _∙_}
 use mathlib.Core.Bool.{Bool, true, false}
-use mathlib.Core.List.{List, [], _∷_, _++_, map, append-nil}
+use mathlib.Core.List.{List, [], _∷_, _++_, map, append-nil, map-append}
 use mathlib.Core.Logic.{_⊎_, inl, inr, _≢_}
 use Prim.Native.Nat.{ℕ, zero, suc, _+_, _≤_, _<_}
 use native.Mathlib.Omega.{arith}
@@ -9,7 +9,7 @@ use lib.ListN.{length, getD}
 use Rattle.std.specs.Finite.{nth}
 use Rattle.std.specs.declared.option.Option.the-variants.{Some}
 use Rattle.symbols.specs.Order.{Order}
-use Rattle.ledger.specs.Lists.{Codes, none, begun, Member, Comes, Some-code, same}
+use Rattle.ledger.specs.Lists.{Codes, none, begun, Comes, Some-code, same}
 use Rattle.ledger.specs.declared.Vertex.{Vertex}
 use Rattle.ledger.specs.Diagrams.{look, Good, Sound, SameCodes}
 use Rattle.ledger.specs.Ledger.{listed, position, number, list-in, lists, codes, vertices-of}
@@ -18,7 +18,8 @@ use Rattle.ledger.proofs.Reading.{true-false, none-some}
 use Rattle.ledger.proofs.Canon.{Kind, is-0, is-1, is-vertex, kind, vertex-good}
 use Rattle.ledger.proofs.Ends.{by-ends, nth-last, length-snoc, getD-last, getD-front}
 use Rattle.ledger.proofs.Rows.{both-ways, Known, Ledger, empty-row, one-more, known-list, number-good, number-list, list-number, listed-getD}
-use Rattle.ledger.proofs.Drawn.{Pictured, pictured, vertices-of-more, lists-vertices-of, lists-more, not-there, comes, some-code, sound-front, look-front, codes-proper, has-member, member-has}
+use Rattle.ledger.proofs.Drawn.{Pictured, pictured, vertices-of-more, lists-vertices-of, lists-more, not-there, comes, some-code, sound-front, look-front, codes-proper}
+use Rattle.ledger.proofs.Draws.{same-lists}
 use Rattle.ledger.proofs.Laying.{sound-more}
 
 module _ {S : Type 0} (before : S → S → Bool) (order : Order before) where
@@ -91,10 +92,6 @@ module _ {A : Type 0} where
   map-kept f g (m ∷ ms) [] h = refl
   map-kept f g (true ∷ ms) (x ∷ xs) h = ap₂ (λ y ys. y ∷ ys) (h 0 x refl) (map-kept f g ms xs (λ k y e. h (suc k) y e))
   map-kept f g (false ∷ ms) (x ∷ xs) h = map-kept f g ms xs (λ k y e. h (suc k) y e)
-
-  map-append : {B : Type 0} (f : A → B) (xs ys : List A) → map f (xs ++ ys) ≡ map f xs ++ map f ys
-  map-append f [] ys = refl
-  map-append f (x ∷ xs) ys = ap (λ r. f x ∷ r) (map-append f xs ys)
 
 last-mark : (ms : List Bool) (n : ℕ) → length ms ≡ suc n → (front : List Bool) × (b : Bool) × (ms ≡ front ++ b ∷ []) × (length front ≡ n)
 last-mark [] n l = absurd (omega arith)
@@ -334,8 +331,5 @@ module _ {S : Type 0} (before : S → S → Bool) (order : Order before) where
           let one : codes (gather ms vs) (renumber ms n) ≡ codes vs n =
           ap (λ r. list-in r (renumber ms n)) rows ∙ ap (list-in (keep ms (lists vs))) (sym (k .1)) ∙ list-number before order (keep ms (lists vs)) (codes vs n) (k .0) in (
             good,
-            λ c. (
-              λ h. member-has before order (gather ms vs) after (renumber ms n) good c (subst⁻¹ (λ t. Member t c) one (has-member before order vs s h)),
-              λ h. member-has before order vs s n g c (subst (λ t. Member t c) one (has-member before order (gather ms vs) after h)),
-            ),
+            same-lists before order vs (gather ms vs) (s .formed) (after .formed) n (renumber ms n) g good (sym one),
           )

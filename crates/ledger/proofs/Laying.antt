@@ -16,28 +16,11 @@ use Rattle.ledger.specs.Laid.{Laid}
 use Rattle.ledger.proofs.Reading.{true-false}
 use Rattle.ledger.proofs.Canon.{Kind, is-0, is-1, is-vertex, kind, vertex-good}
 use Rattle.ledger.proofs.Ends.{length-snoc, getD-last}
-use Rattle.ledger.proofs.Rows.{both-ways, Known, Ledger, known-list, number-list, list-front, lay-held, lay-new, lay-known, lay-only, lay-adds, size, position-below, getD-position}
+use Rattle.ledger.proofs.Rows.{both-ways, Known, Ledger, known-list, number-list, list-front, lay-held, lay-new, lay-known, lay-adds, position-below, getD-position, still-new}
 use Rattle.ledger.proofs.Drawn.{Pictured, pictured, look-cases, draw-append}
 use Rattle.ledger.proofs.Parts.{held-both}
 
 module _ {S : Type 0} (before : S → S → Bool) (order : Order before) where
-  -- what is laid down last is new unless it was there before
-  still-new : (row : List (Codes S)) (a : S) (z o : Codes S) → listed before row (begun a z o) ≡ false → listed before (lay before (lay before row z) o) (begun a z o) ≡ false
-  still-new row a z o e = away (both-ways (listed before (lay before (lay before row z) o) (begun a z o)))
-    where
-      from-row : (listed before row (begun a z o) ≡ true) ⊎ (size (begun a z o) ≤ size z) → ⊥
-      from-row (inl k) = true-false k e
-      from-row (inr k) = omega arith
-
-      from-outer : (listed before (lay before row z) (begun a z o) ≡ true) ⊎ (size (begun a z o) ≤ size o) → ⊥
-      from-outer (inl k) = from-row (lay-only before order row z (begun a z o) k)
-      from-outer (inr k) = omega arith
-
-      away : (listed before (lay before (lay before row z) o) (begun a z o) ≡ true) ⊎ (listed before (lay before (lay before row z) o) (begun a z o) ≡ false) →
-          listed before (lay before (lay before row z) o) (begun a z o) ≡ false
-      away (inl k) = absurd (from-outer (lay-only before order (lay before row z) o (begun a z o) k))
-      away (inr k) = k
-
   -- in a ledger, laying down may always begin with the outer and the inner list
   pub lay-found : {row : List (Codes S)} → Ledger before row → (a : S) (z o : Codes S) → listed before (lay before (lay before row z) o) (begun a z o) ≡ true →
       lay before row (begun a z o) ≡ lay before (lay before row z) o
@@ -47,7 +30,7 @@ module _ {S : Type 0} (before : S → S → Bool) (order : Order before) where
       by (inl e) =
           let k = held-both before order L (begun a z o) e in
           lay-held before order row a z o e ∙ sym (lay-known before order row o (k .1)) ∙ ap (λ r. lay before r o) (sym (lay-known before order row z (k .0)))
-      by (inr e) = absurd (true-false h (still-new row a z o e))
+      by (inr e) = absurd (true-false h (still-new before order row a z o e))
 
   pub lay-append : {row : List (Codes S)} → Ledger before row → (a : S) (z o : Codes S) → listed before (lay before (lay before row z) o) (begun a z o) ≡ false →
       lay before row (begun a z o) ≡ lay before (lay before row z) o ++ begun a z o ∷ []

@@ -1,7 +1,7 @@
 -- The vertices reached from a number are the lists that laying its list down in an empty ledger gives: as many, one for each.
 use mathlib.Core.Path.{_≡_, refl, sym, ap, subst, subst⁻¹, _∙_}
 use mathlib.Core.Bool.{Bool, true, false}
-use mathlib.Core.List.{List, [], _∷_, _++_, map, List·Memᴰ, List·Memᴰ·head, List·Memᴰ·tail, List·Memᴰ·append-cases, Memᴰ·cast, Memᴰ·map, Memᴰ·of-map}
+use mathlib.Core.List.{List, [], _∷_, _++_, map, List·Memᴰ, List·Memᴰ·head, List·Memᴰ·tail, List·Memᴰ·append-cases, Memᴰ·cast, Memᴰ·map, Memᴰ·of-map, map-append}
 use mathlib.Core.Logic.{_⊎_, inl, inr}
 use Prim.Native.Nat.{ℕ, zero, suc, _<_}
 use native.Mathlib.Omega.{arith}
@@ -15,7 +15,7 @@ use Rattle.ledger.specs.Ledger.{listed, number, lay, list-in, lists, codes}
 use Rattle.ledger.proofs.Reading.{true-false}
 use Rattle.ledger.proofs.Canon.{Kind, is-0, is-1, is-vertex, kind, vertex-good}
 use Rattle.ledger.proofs.Sets.{same-equal, same-self}
-use Rattle.ledger.proofs.Rows.{both-ways, Known, Ledger, empty-row, one-more, listed-front, listed-last, listed-cases, known-front, known-list, list-number, number-list, lay-held, lay-new, lay-knows, lay-ledger}
+use Rattle.ledger.proofs.Rows.{both-ways, Known, Ledger, empty-row, one-more, listed-front, listed-last, listed-cases, known-front, known-list, list-number, number-list, lay-knows, lay-ledger, lay-parts}
 use Rattle.ledger.proofs.Drawn.{Pictured, pictured, codes-proper}
 
 part-self : {S : Type 0} (t : Codes S) → Part t t
@@ -41,10 +41,6 @@ apart-more (j ∷ ks) k a out = (λ m. by (List·Memᴰ·append-cases ks m), apa
     by (inl m) = a .0 m
     by (inr m) = last m
 
-map-append : {A B : Type 0} (f : A → B) (xs ys : List A) → map f (xs ++ ys) ≡ map f xs ++ map f ys
-map-append f [] ys = refl
-map-append f (x ∷ xs) ys = ap (λ r. f x ∷ r) (map-append f xs ys)
-
 module _ {S : Type 0} (before : S → S → Bool) (order : Order before) where
   pub held-in : (row : List (Codes S)) (t : Codes S) → listed before row t ≡ true → List·Memᴰ t row
   held-in [] t h = absurd (true-false h refl)
@@ -58,32 +54,6 @@ module _ {S : Type 0} (before : S → S → Bool) (order : Order before) where
   in-held t row (List·Memᴰ·head {x = x} e) = rw (← e, same-self before order t)
   in-held t row (List·Memᴰ·tail {x = x} {xs = xs} m) =
       elim (same before x t) as (λ b. mathlib.Core.Bool.cond b true (listed before xs t) ≡ true) [ true ↦ refl | false ↦ in-held t xs m ]
-
-  -- what laying down adds are parts
-  pub lay-parts : (row : List (Codes S)) (t u : Codes S) → listed before (lay before row t) u ≡ true → (listed before row u ≡ true) ⊎ Part t u
-  lay-parts row none u h = inl h
-  lay-parts row blank u h = inl h
-  lay-parts row (begun a z o) u h = by (both-ways (listed before row (begun a z o))) (lay-parts row z u) (lay-parts (lay before row z) o u)
-    where
-      outer-in : (listed before row u ≡ true) ⊎ Part z u → (listed before row u ≡ true) ⊎ Part (begun a z o) u
-      outer-in (inl k) = inl k
-      outer-in (inr k) = inr (inr (inl k))
-
-      inner-in : (listed before (lay before row z) u ≡ true → (listed before row u ≡ true) ⊎ Part z u) → (listed before (lay before row z) u ≡ true) ⊎ Part o u → (listed before row u ≡ true) ⊎ Part (begun a z o) u
-      inner-in outer (inl k) = outer-in (outer k)
-      inner-in outer (inr k) = inr (inr (inr k))
-
-      last : (listed before (lay before row z) u ≡ true → (listed before row u ≡ true) ⊎ Part z u) →
-          (listed before (lay before (lay before row z) o) u ≡ true → (listed before (lay before row z) u ≡ true) ⊎ Part o u) →
-          (listed before (lay before (lay before row z) o) u ≡ true) ⊎ (begun a z o ≡ u) → (listed before row u ≡ true) ⊎ Part (begun a z o) u
-      last outer inner (inl k) = inner-in outer (inner k)
-      last outer inner (inr k) = inr (inl k)
-
-      by : (listed before row (begun a z o) ≡ true) ⊎ (listed before row (begun a z o) ≡ false) →
-          (listed before (lay before row z) u ≡ true → (listed before row u ≡ true) ⊎ Part z u) →
-          (listed before (lay before (lay before row z) o) u ≡ true → (listed before (lay before row z) u ≡ true) ⊎ Part o u) → (listed before row u ≡ true) ⊎ Part (begun a z o) u
-      by (inl e) outer inner = inl (rw (lay-held before order row a z o e) at h)
-      by (inr e) outer inner = last outer inner (listed-cases before order (lay before (lay before row z) o) (begun a z o) u (rw (lay-new before order row a z o e) at h))
 
   -- a ledger that knows a list knows its outer and inner list
   abbrev pub Both : List (Codes S) → Codes S → Type 0
@@ -186,7 +156,7 @@ module _ {S : Type 0} (before : S → S → Bool) (order : Order before) where
 
       laid-part : (u : Codes S) → listed before laid u ≡ true → Part (codes vs n) u
       unfolding laid
-      laid-part u h = by (lay-parts [] (codes vs n) u h)
+      laid-part u h = by (lay-parts before order [] (codes vs n) u h)
         where
           by : (false ≡ true) ⊎ Part (codes vs n) u → Part (codes vs n) u
           by (inl e) = absurd (true-false refl (sym e))

@@ -8,20 +8,25 @@ use native.Mathlib.Omega.{arith}
 use native.Mathlib.Decide.{ℕ-discrete}
 use lib.ListN.{length, getD}
 use Rattle.symbols.specs.Order.{Order}
-use Rattle.ledger.specs.Lists.{Codes, none, blank, begun, Proper, same}
+pub use Rattle.symbols.proofs.Orders.{both-ways}
+use Rattle.ledger.specs.Lists.{Part, Codes, none, blank, begun, Proper, same}
 use Rattle.ledger.specs.Ledger.{listed, position, number, lay, list-in}
 use Rattle.ledger.proofs.Reading.{true-false}
 use Rattle.ledger.proofs.Sets.{same-equal, same-self}
 use Rattle.ledger.proofs.Ends.{getD-front, getD-last, length-snoc}
 
-pub both-ways : (b : Bool) → (b ≡ true) ⊎ (b ≡ false)
-both-ways true = inl refl
-both-ways false = inr refl
-
-abbrev pub size : {S : Type 0} → Codes S → ℕ
+abbrev size : {S : Type 0} → Codes S → ℕ
 size none = 0
 size blank = 0
 size (begun a z o) = suc (size z + size o)
+
+-- a part is no larger
+part-small : {S : Type 0} (t u : Codes S) → Part t u → size u ≤ size t
+part-small {S} none u e = let h : size {S = S} none ≡ size u = ap size e in omega arith
+part-small {S} blank u e = let h : size {S = S} blank ≡ size u = ap size e in omega arith
+part-small (begun a z o) u (inl e) = let h : size (begun a z o) ≡ size u = ap size e in omega arith
+part-small (begun a z o) u (inr (inl p)) = let h = part-small z u p in omega arith
+part-small (begun a z o) u (inr (inr p)) = let h = part-small o u p in omega arith
 
 -- the list is a terminal, or has a number in the row
 abbrev pub Known : {S : Type 0} → (S → S → Bool) → List (Codes S) → Codes S → Type 0
@@ -212,34 +217,48 @@ module _ {S : Type 0} (before : S → S → Bool) (order : Order before) where
   pub known-laid : (row : List (Codes S)) (t u : Codes S) → Known before row u → Known before (lay before row t) u
   known-laid row t u k = let r = lay-adds row t in rw (r .1) (known-front row (r .0) u k)
 
-  -- laying down adds the list and smaller ones
-  pub lay-only : (row : List (Codes S)) (t u : Codes S) → listed before (lay before row t) u ≡ true → (listed before row u ≡ true) ⊎ (size u ≤ size t)
-  lay-only row none u h = inl h
-  lay-only row blank u h = inl h
-  lay-only row (begun a z o) u h = by (both-ways (listed before row (begun a z o))) (lay-only row z u) (lay-only (lay before row z) o u)
+  -- what laying down adds are parts
+  pub lay-parts : (row : List (Codes S)) (t u : Codes S) → listed before (lay before row t) u ≡ true → (listed before row u ≡ true) ⊎ Part t u
+  lay-parts row none u h = inl h
+  lay-parts row blank u h = inl h
+  lay-parts row (begun a z o) u h = by (both-ways (listed before row (begun a z o))) (lay-parts row z u) (lay-parts (lay before row z) o u)
     where
-      Goal : Type 0
-      Goal = (listed before row u ≡ true) ⊎ (size u ≤ suc (size z + size o))
-
-      outer-in : (listed before row u ≡ true) ⊎ (size u ≤ size z) → Goal
+      outer-in : (listed before row u ≡ true) ⊎ Part z u → (listed before row u ≡ true) ⊎ Part (begun a z o) u
       outer-in (inl k) = inl k
-      outer-in (inr k) = inr (omega arith)
+      outer-in (inr k) = inr (inr (inl k))
 
-      inner-in : (listed before (lay before row z) u ≡ true → (listed before row u ≡ true) ⊎ (size u ≤ size z)) → (listed before (lay before row z) u ≡ true) ⊎ (size u ≤ size o) → Goal
+      inner-in : (listed before (lay before row z) u ≡ true → (listed before row u ≡ true) ⊎ Part z u) → (listed before (lay before row z) u ≡ true) ⊎ Part o u → (listed before row u ≡ true) ⊎ Part (begun a z o) u
       inner-in outer (inl k) = outer-in (outer k)
-      inner-in outer (inr k) = inr (omega arith)
+      inner-in outer (inr k) = inr (inr (inr k))
 
-      last : (listed before (lay before row z) u ≡ true → (listed before row u ≡ true) ⊎ (size u ≤ size z)) →
-          (listed before (lay before (lay before row z) o) u ≡ true → (listed before (lay before row z) u ≡ true) ⊎ (size u ≤ size o)) →
-          (listed before (lay before (lay before row z) o) u ≡ true) ⊎ (begun a z o ≡ u) → Goal
+      last : (listed before (lay before row z) u ≡ true → (listed before row u ≡ true) ⊎ Part z u) →
+          (listed before (lay before (lay before row z) o) u ≡ true → (listed before (lay before row z) u ≡ true) ⊎ Part o u) →
+          (listed before (lay before (lay before row z) o) u ≡ true) ⊎ (begun a z o ≡ u) → (listed before row u ≡ true) ⊎ Part (begun a z o) u
       last outer inner (inl k) = inner-in outer (inner k)
-      last outer inner (inr k) = let e : size (begun a z o) ≡ size u = ap size k in inr (omega arith)
+      last outer inner (inr k) = inr (inl k)
 
       by : (listed before row (begun a z o) ≡ true) ⊎ (listed before row (begun a z o) ≡ false) →
-          (listed before (lay before row z) u ≡ true → (listed before row u ≡ true) ⊎ (size u ≤ size z)) →
-          (listed before (lay before (lay before row z) o) u ≡ true → (listed before (lay before row z) u ≡ true) ⊎ (size u ≤ size o)) → Goal
+          (listed before (lay before row z) u ≡ true → (listed before row u ≡ true) ⊎ Part z u) →
+          (listed before (lay before (lay before row z) o) u ≡ true → (listed before (lay before row z) u ≡ true) ⊎ Part o u) → (listed before row u ≡ true) ⊎ Part (begun a z o) u
       by (inl e) outer inner = inl (rw (lay-held row a z o e) at h)
       by (inr e) outer inner = last outer inner (listed-cases (lay before (lay before row z) o) (begun a z o) u (rw (lay-new row a z o e) at h))
+
+  -- what is laid down last is new unless it was there before
+  pub still-new : (row : List (Codes S)) (a : S) (z o : Codes S) → listed before row (begun a z o) ≡ false → listed before (lay before (lay before row z) o) (begun a z o) ≡ false
+  still-new row a z o e = away (both-ways (listed before (lay before (lay before row z) o) (begun a z o)))
+    where
+      from-row : (listed before row (begun a z o) ≡ true) ⊎ Part z (begun a z o) → ⊥
+      from-row (inl k) = true-false k e
+      from-row (inr k) = omega (arith, part-small z (begun a z o) k)
+
+      from-outer : (listed before (lay before row z) (begun a z o) ≡ true) ⊎ Part o (begun a z o) → ⊥
+      from-outer (inl k) = from-row (lay-parts row z (begun a z o) k)
+      from-outer (inr k) = omega (arith, part-small o (begun a z o) k)
+
+      away : (listed before (lay before (lay before row z) o) (begun a z o) ≡ true) ⊎ (listed before (lay before (lay before row z) o) (begun a z o) ≡ false) →
+          listed before (lay before (lay before row z) o) (begun a z o) ≡ false
+      away (inl k) = absurd (from-outer (lay-parts (lay before row z) o (begun a z o) k))
+      away (inr k) = k
 
   -- a ledger stays one
   pub lay-ledger : (row : List (Codes S)) (t : Codes S) → Ledger before row → Proper before t → Ledger before (lay before row t)
@@ -255,17 +274,4 @@ module _ {S : Type 0} (before : S → S → Bool) (order : Order before) where
           (known-laid (lay before row z) o z (lay-knows row z))
           (lay-knows (lay before row z) o)
           p
-          (away (both-ways (listed before (lay before (lay before row z) o) (begun a z o))))
-        where
-          from-row : (listed before row (begun a z o) ≡ true) ⊎ (size (begun a z o) ≤ size z) → ⊥
-          from-row (inl k) = true-false k e
-          from-row (inr k) = omega arith
-
-          from-outer : (listed before (lay before row z) (begun a z o) ≡ true) ⊎ (size (begun a z o) ≤ size o) → ⊥
-          from-outer (inl k) = from-row (lay-only row z (begun a z o) k)
-          from-outer (inr k) = omega arith
-
-          away : (listed before (lay before (lay before row z) o) (begun a z o) ≡ true) ⊎ (listed before (lay before (lay before row z) o) (begun a z o) ≡ false) →
-              listed before (lay before (lay before row z) o) (begun a z o) ≡ false
-          away (inl k) = absurd (from-outer (lay-only (lay before row z) o (begun a z o) k))
-          away (inr k) = k
+          (still-new row a z o e)

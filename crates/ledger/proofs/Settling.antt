@@ -101,13 +101,23 @@ module _ {S : Type 0} (before : S → S → Bool) (order : Order before) where
   unfolding placed
   placed-new vs v f = let e : suc (suc (length vs)) ≡ length vs + 2 = omega arith in ap (or-new vs v) (first-found vs v None f) ∙ ap (λ n. (vs ++ v ∷ [], n)) e
 
-  pub placed-more : (vs : List (Vertex S)) (v : Vertex S) → (more : List (Vertex S)) × (placed before vs v .0 ≡ vs ++ more)
+  -- what holds of an old equal vertex, and of a new one, holds
+  pub placed-by : (P : Placed S → Type 0) (vs : List (Vertex S)) (v : Vertex S) → ((k : ℕ) → look vs k ≡ Some v → P (vs, k)) →
+      (((k : ℕ) → look vs k ≡ Some v → ⊥) → P (vs ++ v ∷ [], suc (suc (length vs)))) → P (placed before vs v)
   unfolding placed
-  placed-more vs v = by (found before 2 vs v)
+  placed-by P vs v old new = by (found-cases 2 vs v)
     where
-      by : (r : Option ℕ) → (more : List (Vertex S)) × (or-new vs v r .0 ≡ vs ++ more)
-      by None = (v ∷ [], refl)
-      by (Some n) = ([], sym (append-nil vs))
+      nowhere : ((j : ℕ) → nth vs j ≡ Some v → ⊥) → (k : ℕ) → look vs k ≡ Some v → ⊥
+      nowhere away zero e = none-some refl e
+      nowhere away (suc zero) e = none-some refl e
+      nowhere away (suc (suc k)) e = away k e
+
+      by : ((k : ℕ) × (found before 2 vs v ≡ Some (2 + k)) × (nth vs k ≡ Some v)) ⊎ ((found before 2 vs v ≡ None) × ((j : ℕ) → nth vs j ≡ Some v → ⊥)) → P (or-new vs v (found before 2 vs v))
+      by (inl r) = subst (λ (x : Option ℕ). P (or-new vs v x)) (sym (r .1 ∙ ap Some (omega arith))) (old (suc (suc (r .0))) (r .2))
+      by (inr r) = subst (λ (x : Option ℕ). P (or-new vs v x)) (sym (r .0)) (new (nowhere (r .1)))
+
+  pub placed-more : (vs : List (Vertex S)) (v : Vertex S) → (more : List (Vertex S)) × (placed before vs v .0 ≡ vs ++ more)
+  placed-more vs v = placed-by (λ (s : Placed S). (more : List (Vertex S)) × (s .0 ≡ vs ++ more)) vs v (λ k e. ([], sym (append-nil vs))) (λ away. (v ∷ [], refl))
 
   -- laying down, by its three forms
   pub laying-none : (vs : List (Vertex S)) → laying before vs none ≡ (vs, 0)
@@ -140,31 +150,6 @@ module _ {S : Type 0} (before : S → S → Bool) (order : Order before) where
         r .1 ∙ ap (λ (x : List (Vertex S)). x ++ r .0) (q .1 ∙ ap (λ (x : List (Vertex S)). x ++ q .0) (p .1)) ∙ simp append-assoc,
       )
 
-  placed-laid : (vs us ws : List (Vertex S)) → Sound before vs → (z o : Codes S) (rz ro : ℕ) → Laid before vs z us rz → Laid before us o ws ro → (a : S) → Proper before (begun a z o) →
-      Laid before vs (begun a z o) (placed before ws (record { label = a; zero = rz; one = ro }) .0) (placed before ws (record { label = a; zero = rz; one = ro }) .1)
-  unfolding placed
-  placed-laid vs us ws sv z o rz ro outer inner a proper = by (found-cases 2 ws v)
-    where
-      v : Vertex S
-      v = record { label = a; zero = rz; one = ro }
-
-      here : (r : Option ℕ) → found before 2 ws (record { label = a; zero = rz; one = ro }) ≡ r → Laid before vs (begun a z o) (or-new ws (record { label = a; zero = rz; one = ro }) r .0) (or-new ws (record { label = a; zero = rz; one = ro }) r .1) →
-          Laid before vs (begun a z o) (or-new ws (record { label = a; zero = rz; one = ro }) (found before 2 ws (record { label = a; zero = rz; one = ro })) .0)
-          (or-new ws (record { label = a; zero = rz; one = ro }) (found before 2 ws (record { label = a; zero = rz; one = ro })) .1)
-      here r e l = subst (λ (x : Option ℕ). Laid before vs (begun a z o) (or-new ws (record { label = a; zero = rz; one = ro }) x .0) (or-new ws (record { label = a; zero = rz; one = ro }) x .1)) (sym e) l
-
-      nowhere : ((j : ℕ) → nth ws j ≡ Some (record { label = a; zero = rz; one = ro }) → ⊥) → (k : ℕ) → look ws k ≡ Some (record { label = a; zero = rz; one = ro }) → ⊥
-      nowhere away zero e = none-some refl e
-      nowhere away (suc zero) e = none-some refl e
-      nowhere away (suc (suc k)) e = away k e
-
-      by : ((k : ℕ) × (found before 2 ws (record { label = a; zero = rz; one = ro }) ≡ Some (2 + k)) × (nth ws k ≡ Some (record { label = a; zero = rz; one = ro }))) ⊎
-          ((found before 2 ws (record { label = a; zero = rz; one = ro }) ≡ None) × ((j : ℕ) → nth ws j ≡ Some (record { label = a; zero = rz; one = ro }) → ⊥)) →
-          Laid before vs (begun a z o) (or-new ws (record { label = a; zero = rz; one = ro }) (found before 2 ws (record { label = a; zero = rz; one = ro })) .0)
-          (or-new ws (record { label = a; zero = rz; one = ro }) (found before 2 ws (record { label = a; zero = rz; one = ro })) .1)
-      by (inl r) = here (Some (suc (suc (r .0)))) (r .1 ∙ ap Some (omega arith)) (laid-found before order vs us ws sv z o rz ro outer inner a (suc (suc (r .0))) (r .2))
-      by (inr r) = here None (r .0) (laid-append before order vs us ws sv z o rz ro outer inner a (nowhere (r .1)) proper)
-
   -- what laying a list down leaves: sound vertices, whose lists are what the ledger says, and a good number of that list
   pub laying-laid : (vs : List (Vertex S)) (t : Codes S) → Sound before vs → Proper before t → Laid before vs t (laying before vs t .0) (laying before vs t .1)
   unfolding laying
@@ -173,7 +158,13 @@ module _ {S : Type 0} (before : S → S → Bool) (order : Order before) where
   laying-laid vs (begun a z o) s p =
       let outer = laying-laid vs z s (p .2) in
       let inner = laying-laid (laying before vs z .0) o (outer .sound) (p .3) in
-      placed-laid vs (laying before vs z .0) (laying before (laying before vs z .0) o .0) s z o (laying before vs z .1) (laying before (laying before vs z .0) o .1) outer inner a p
+      let us = laying before vs z .0 in
+      let ws = laying before us o .0 in
+      let m = laying before vs z .1 in
+      let n = laying before us o .1 in
+      placed-by (λ (x : Placed S). Laid before vs (begun a z o) (x .0) (x .1)) ws (record { label = a; zero = m; one = n })
+      (laid-found before order vs us ws s z o m n outer inner a)
+      (λ away. laid-append before order vs us ws s z o m n outer inner a away p)
 
   pub laying-is : (vs : List (Vertex S)) (t : Codes S) → Sound before vs → Proper before t → laying before vs t ≡ (down before vs t, down-number before vs t)
   laying-is vs t s p = let e = laid-is before order vs t _ _ (laying-laid vs t s p) in λ i. (e .0 i, e .1 i)

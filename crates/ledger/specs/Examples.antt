@@ -69,6 +69,7 @@ pub record Rows : Type 0 where
   pub keep-4 : Keeps third (4 ∷ []) marks
   pub four-becomes : renumber marks 4 ≡ 3
   pub used-then : length (gather marks third) ≡ 2
+  pub stay : gather marks third ≡ vertex 66 0 1 ∷ vertex 65 2 2 ∷ []
   -- with capacity 2
   pub narrow-add-AB : Answers 2 [] (added ltb (codes [] 0) AB) (Ok 3) first
   pub narrow-add-B : Answers 2 first (added ltb (codes first 3) B) (Err 9) first

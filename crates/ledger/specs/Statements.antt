@@ -1,7 +1,7 @@
 -- What is proved of every row of vertices, every diagram and every dispatch.
 use mathlib.Core.Path.{_≡_}
 use mathlib.Core.Bool.{Bool}
-use mathlib.Core.List.{List, _++_, List·Memᴰ}
+use mathlib.Core.List.{List, [], _++_, List·Memᴰ}
 use mathlib.Core.Logic.{_↔_, _⊎_}
 use Prim.Native.Nat.{ℕ, _≤_}
 use lib.ListN.{length}
@@ -43,6 +43,10 @@ abbrev pub Attained : {S : Type 0} → (S → S → Bool) → Type 0
 Attained {S} before =
     (vs : List (Vertex S)) → Sound before vs → (n : ℕ) → Good vs n →
     LeastDiagram before vs n (fresh before (codes vs n) .drawn) (fresh before (codes vs n) .root)
+
+-- the vertices of a fresh ledger are sound
+abbrev pub FreshSound : {S : Type 0} → (S → S → Bool) → Type 0
+FreshSound {S} before = Sound {S = S} before []
 
 -- the list has a number
 abbrev pub Numbered : {S : Type 0} → List (Vertex S) → Codes S → Type 0
@@ -99,6 +103,13 @@ abbrev pub Accepted : {S : Type 0} → (S → S → Bool) → Type 0
 Accepted {S} before =
     (vs : List (Vertex S)) → Formed before vs → (root : ℕ) → Good vs root →
     (Different vs × Visits vs 0 root (length vs)) ↔ (fresh before (codes vs root) ≡ record { drawn = vs; root = root })
+
+-- so of the bytes: those of formed vertices and a root are what writing the root's list gives under the same conditions
+abbrev pub Received : {S : Type 0} → (S → S → Bool) → (kind width : ℕ) → (S → List ℕ) → Type 0
+Received {S} before kind width bytes =
+    (vs : List (Vertex S)) → Formed before vs → length vs ≤ 1000000 → (root : ℕ) → Good vs root →
+    (Different vs × Visits vs 0 root (length vs)) ↔
+    (dispatch kind width bytes (fresh before (codes vs root)) ≡ dispatch kind width bytes (record { drawn = vs; root = root }))
 
 -- a list written from one row and a list written from another give equal bytes exactly when they have the same codes
 abbrev pub WrittenAlike : {S : Type 0} → (S → S → Bool) → (kind width : ℕ) → (S → List ℕ) → Type 0

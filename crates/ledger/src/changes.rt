@@ -1,6 +1,13 @@
-// What laying down and clearing out do to sound vertices.
-ghost use Rattle.ledger.specs.Statements.{LayingDown, ClearingOut};
+// What laying down and clearing out do to sound vertices: so vertices are sound after any run of them.
+ghost use Rattle.ledger.specs.Statements.{FreshSound, LayingDown, ClearingOut};
 use symbols::Symbol;
+
+// A fresh ledger's vertices are sound.
+pub fn fresh_sound<S: Symbol>() -> u8
+    ensures { λ _. ⌜ FreshSound (S·Symbol .before) ⌝ }
+{
+    0
+}
 
 // Laying down only appends, and appends what the ledger says.
 pub fn laying_down<S: Symbol>() -> u8

@@ -1,5 +1,5 @@
 // What is written of a list shows its codes and nothing else.
-ghost use Rattle.ledger.specs.Statements.{ReadBack, Accepted, WrittenAlike};
+ghost use Rattle.ledger.specs.Statements.{ReadBack, Accepted, Received, WrittenAlike};
 use symbols::Symbol;
 use symbols::WireSymbol;
 
@@ -13,6 +13,13 @@ pub fn read_back<S: Symbol>() -> u8
 // Which vertices are just what writing their root's list gives.
 pub fn accepted<S: Symbol>() -> u8
     ensures { λ _. ⌜ Accepted (S·Symbol .before) ⌝ }
+{
+    0
+}
+
+// Which bytes are just what writing their root's list gives.
+pub fn received<S: WireSymbol>() -> u8
+    ensures { λ _. ⌜ Received (S·Symbol .before) (S·WireSymbol .kind) (S·WireSymbol .width) (S·WireSymbol .bytes) ⌝ }
 {
     0
 }

@@ -62,6 +62,7 @@ returns c =
       keep-4 = (refl, λ n v p. (there n v p, λ h. back (h .1) (h .2)));
       four-becomes = refl;
       used-then = refl;
+      stay = refl;
       narrow-add-AB = (omega arith, refl, refl);
       narrow-add-B = (omega arith, refl);
       narrow-again = (omega arith, refl, refl);
