@@ -1,9 +1,9 @@
 -- What each turn of the walk does to what the walk stands for.
-use mathlib.Core.Path.{_≡_, refl, sym, _∙_, ap, ap₂, subst, subst⁻¹}
-use mathlib.Core.List.{List, [], _∷_, _++_, append-assoc, append-nil}
+use mathlib.Core.Path.{_≡_, refl, sym, _∙_, ap, subst, subst⁻¹}
+use mathlib.Core.List.{List, [], _++_, append-assoc, append-nil}
 use mathlib.Core.Bool.{Bool}
 use mathlib.Core.Logic.{_⊎_, inl, inr, _≢_}
-use Prim.Native.Nat.{ℕ, zero, suc, _+_, _-_, _<_, _≤_}
+use Prim.Native.Nat.{ℕ, _+_, _-_, _<_}
 use native.Mathlib.Omega.{arith}
 use lib.ListN.{length, set}
 use Rattle.std.specs.declared.option.Option.{Option}
@@ -16,7 +16,7 @@ use Rattle.ledger.specs.Lists.{Codes, Proper}
 use Rattle.ledger.specs.Diagrams.{Good, Sound}
 use Rattle.ledger.specs.Ledger.{lay, lists, codes}
 use Rattle.ledger.specs.Laid.{Laid}
-use Rattle.ledger.specs.Operations.{takes, make, join}
+use Rattle.ledger.specs.Operations.{takes, make}
 use Rattle.ledger.proofs.Drawn.{sound-front}
 use Rattle.ledger.proofs.Laying.{laid-known}
 use Rattle.ledger.proofs.Reading.{none-some, some-same}
@@ -27,19 +27,17 @@ use Rattle.memory.specs.Tables.{Told}
 use Rattle.joining.specs.Recalled.{Right, RightEntry}
 use Rattle.joining.specs.Pairs.{asked, joint, Settled, apart}
 use Rattle.joining.specs.Frames.{place-of, frame-at}
-use Rattle.joining.specs.Walks.{Waits, Held, Stack, Stands, Running, Coupled}
+use Rattle.joining.specs.Walks.{Waits, Held, Stack, Running, Coupled}
 use Rattle.joining.specs.declared.pairs.Pair.{Pair}
 use Rattle.joining.specs.declared.pairs.Split.{Split}
 use Rattle.joining.specs.declared.frames.Frame.{Frame}
 use Rattle.joining.specs.declared.frames.Stage.{Stage}
 use Rattle.joining.specs.declared.frames.Stage.the-variants.{Outer, Inner}
-use Rattle.joining.specs.declared.turns.Turn.{Turn}
 use Rattle.joining.specs.declared.turns.Turn.the-variants.{Meet, Answer}
-use Rattle.joining.specs.declared.turns.State.{State}
 use Rattle.joining.proofs.Splits.{Parted, parted-is, parted-some}
 use Rattle.joining.proofs.Growing.{good-front, apart-front, joint-front, right-front, joint-proper, settled-good, settled-is}
 use Rattle.joining.proofs.Coupling.{Couples, couples}
-use Rattle.joining.proofs.Stacks.{Over, stack-push, stack-top, held-is, stack-longer}
+use Rattle.joining.proofs.Stacks.{Over, stack-push, stack-top, stack-longer}
 
 module _ {S : Type 0} (before : S → S → Bool) (order : Order before) (old : List (Vertex S)) (rule : ℕ) (goal : Codes S) (vs : List (Vertex S)) (table : Question → Option ℕ) (places : List Place) (height : ℕ) where
   -- the old vertices are the first of these

@@ -6,7 +6,7 @@ use Prim.Native.Nat.{ℕ, zero, suc, _+_, _-_, _<_, _≤_}
 use native.Mathlib.Decide.{ℕ-discrete}
 use native.Mathlib.Numerals.{add-one}
 use native.Mathlib.Omega.{arith}
-use lib.ListN.{length, getD, set}
+use lib.ListN.{length, set}
 use Rattle.std.proofs.shelf.Lists.{length-set, getD-set-same, getD-set-other}
 use Rattle.memory.specs.declared.work.Place.{Place}
 use Rattle.joining.specs.Pairs.{sum}
@@ -16,7 +16,6 @@ use Rattle.joining.specs.declared.pairs.Pair.{Pair}
 use Rattle.joining.specs.declared.frames.Frame.{Frame}
 use Rattle.joining.specs.declared.frames.Stage.{Stage}
 use Rattle.joining.specs.declared.frames.Stage.the-variants.{Outer, Inner}
-use Rattle.joining.specs.declared.turns.Turn.{Turn}
 use Rattle.joining.specs.declared.turns.Turn.the-variants.{Meet, Answer}
 use Rattle.joining.specs.declared.turns.State.{State}
 

@@ -2,8 +2,7 @@
 //
 // A turn asks the recall table once at most and reads two vertices. It reads links through `read_vertex`, so pairs only
 // get lower, and the walk ends and stays within its frames on any memory.
-ghost use Prim.Native.Nat.{ℕ, _+_, _<_, _≤_};
-ghost use lib.ListN.{length};
+ghost use Prim.Native.Nat.{_+_, _<_};
 ghost use mathlib.Core.Path.{_≡_};
 ghost use Rattle.joining.specs.Rules.{number-of};
 ghost use Rattle.joining.specs.Walks.{Fits, cost, Goes, Turns, Comes-down, Coupled, Unended, Ended};

@@ -1,4 +1,4 @@
-use mathlib.Core.Path.{_≡_, refl, sym, subst, subst⁻¹}
+use mathlib.Core.Path.{refl, sym, subst, subst⁻¹}
 use mathlib.Core.List.{List}
 use Rattle.memory.specs.declared.recall.Question.{Question}
 use Rattle.memory.specs.declared.work.Place.{Place}
