@@ -30,6 +30,13 @@ use Rattle.joining.specs.declared.turns.Turn.{Turn}
 use Rattle.joining.specs.declared.turns.Turn.the-variants.{Meet, Answer}
 use Rattle.joining.specs.declared.turns.State.{State}
 
+-- a pair is met, and a number comes back, above so many frames
+abbrev pub meeting : ℕ → Pair → State
+meeting height pair = record { height = height; turn = Meet pair }
+
+abbrev pub answered : ℕ → ℕ → State
+answered height n = record { height = height; turn = Answer n }
+
 -- the frames have room, whatever the vertices: a pair that is met, or waits, has a sum up to the places above it
 abbrev pub Reaches : List Place → ℕ → Turn → Type 0
 Reaches places height (Meet pair) = height + sum pair ≤ length places
