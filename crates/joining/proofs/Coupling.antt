@@ -1,9 +1,9 @@
 -- A vertex over two lists that are laid down lays down the list that they make, or does not fit.
-use mathlib.Core.Path.{_≡_, refl, sym, _∙_, ap, ap₂, subst, subst⁻¹}
+use mathlib.Core.Path.{_≡_, refl, sym, _∙_, ap, subst, subst⁻¹}
 use mathlib.Core.List.{List, [], _∷_, _++_, append-nil}
 use mathlib.Core.Bool.{Bool, true, false}
 use mathlib.Core.Logic.{_⊎_, inl, inr, _≢_}
-use Prim.Native.Nat.{ℕ, zero, suc, _+_, _<_, _≤_}
+use Prim.Native.Nat.{ℕ, suc, _+_, _<_, _≤_}
 use native.Mathlib.Omega.{arith}
 use lib.ListN.{length, length-append}
 use Rattle.std.specs.declared.option.Option.the-variants.{Some, None}
@@ -12,7 +12,7 @@ use Rattle.std.specs.declared.result.Result.the-variants.{Ok, Err}
 use Rattle.symbols.specs.Order.{Order}
 use Rattle.ledger.specs.declared.Vertex.{Vertex}
 use Rattle.ledger.specs.Lists.{Codes, none, blank, begun, Proper}
-use Rattle.ledger.specs.Diagrams.{Good, Sound}
+use Rattle.ledger.specs.Diagrams.{Sound}
 use Rattle.ledger.specs.Ledger.{listed, lay, lists, codes, number, vertices-of}
 use Rattle.ledger.specs.Laid.{Laid, First}
 use Rattle.ledger.specs.Operations.{make}
@@ -21,7 +21,7 @@ use Rattle.ledger.proofs.Ends.{length-snoc}
 use Rattle.ledger.proofs.Laying.{laid-found, laid-append, lay-found, lay-append}
 use Rattle.ledger.proofs.Rows.{Ledger, both-ways, lay-adds, number-list}
 use Rattle.memory.specs.declared.shelf.Full.{Full}
-use Rattle.memory.specs.Shelves.{vertex, Appends, FoundOrAppended}
+use Rattle.memory.specs.Shelves.{vertex, Appends}
 use Rattle.joining.specs.Walks.{Coupled}
 
 -- something inside: the list is begun

@@ -1,11 +1,10 @@
 -- A pair taken apart: its list is made of the lists of its two parts.
 use mathlib.Core.Path.{_≡_, refl, sym, _∙_, ap, ap₂, subst}
-use mathlib.Core.List.{List, _++_}
+use mathlib.Core.List.{List}
 use mathlib.Core.Bool.{Bool, true, false, cond}
-use mathlib.Core.Logic.{_⊎_, inl, inr, _≢_}
-use Prim.Native.Nat.{ℕ, zero, suc, _+_, _<_, _≤_}
+use mathlib.Core.Logic.{inl, inr, _≢_}
+use Prim.Native.Nat.{ℕ, zero, _<_}
 use native.Mathlib.Omega.{arith}
-use lib.ListN.{length}
 use Rattle.std.specs.Options.{mapped}
 use Rattle.std.specs.declared.option.Option.{Option}
 use Rattle.std.specs.declared.option.Option.the-variants.{Some, None}
@@ -14,11 +13,11 @@ use Rattle.ledger.specs.declared.Vertex.{Vertex}
 use Rattle.ledger.specs.Lists.{Codes, none, blank, begun}
 use Rattle.ledger.specs.Diagrams.{look, parts, Good, Sound}
 use Rattle.ledger.specs.Ledger.{codes}
-use Rattle.ledger.specs.Operations.{make, join, join-blank, join-over}
+use Rattle.ledger.specs.Operations.{make, join}
 use Rattle.ledger.proofs.Draws.{terminal, codes-formed}
 use Rattle.ledger.proofs.Reading.{none-some, some-same}
 use Rattle.memory.specs.Shelves.{LinksBelow}
-use Rattle.joining.specs.Pairs.{sum, first-alone, second-alone, both-heads, by-heads, parted, apart, Falls}
+use Rattle.joining.specs.Pairs.{first-alone, second-alone, both-heads, by-heads, parted, apart, Falls}
 use Rattle.joining.specs.declared.pairs.Pair.{Pair}
 use Rattle.joining.specs.declared.pairs.Split.{Split}
 

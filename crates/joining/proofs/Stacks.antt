@@ -1,6 +1,6 @@
 -- The frames that wait: one more, one less, and that what they wait for fits into the goal.
-use mathlib.Core.Path.{_≡_, refl, sym, _∙_, ap, ap₂, subst, subst⁻¹}
-use mathlib.Core.List.{List, [], _∷_, _++_}
+use mathlib.Core.Path.{_≡_, ap, ap₂, subst, subst⁻¹}
+use mathlib.Core.List.{List}
 use mathlib.Core.Bool.{Bool}
 use mathlib.Core.Logic.{_≢_}
 use Prim.Native.Nat.{ℕ, zero, suc, _+_, _-_, _<_, _≤_}
@@ -10,9 +10,8 @@ use lib.ListN.{length, set}
 use Rattle.symbols.specs.Order.{Order}
 use Rattle.ledger.specs.declared.Vertex.{Vertex}
 use Rattle.ledger.specs.Lists.{Codes}
-use Rattle.ledger.specs.Diagrams.{Good, Sound}
+use Rattle.ledger.specs.Diagrams.{Sound}
 use Rattle.ledger.specs.Ledger.{lay, lists}
-use Rattle.ledger.specs.Laid.{Laid}
 use Rattle.ledger.specs.Operations.{takes, make}
 use Rattle.ledger.proofs.Drawn.{pictured}
 use Rattle.memory.specs.declared.work.Place.{Place}
@@ -24,7 +23,7 @@ use Rattle.joining.specs.declared.frames.Frame.{Frame}
 use Rattle.joining.specs.declared.frames.Stage.{Stage}
 use Rattle.joining.specs.declared.frames.Stage.the-variants.{Outer, Inner}
 use Rattle.joining.proofs.Weights.{frame-same, frame-other}
-use Rattle.joining.proofs.Splits.{Parted, parted-is}
+use Rattle.joining.proofs.Splits.{parted-is}
 use Rattle.joining.proofs.Coupling.{made-longer, outer-longer}
 
 module _ {S : Type 0} (before : S → S → Bool) (order : Order before) (old : List (Vertex S)) (rule : ℕ) (goal : Codes S) where

@@ -1,9 +1,9 @@
 -- What each turn of the walk does to what the walk stands for.
-use mathlib.Core.Path.{_≡_, refl, sym, _∙_, ap, ap₂, subst, subst⁻¹}
-use mathlib.Core.List.{List, [], _∷_, _++_, append-assoc, append-nil}
+use mathlib.Core.Path.{_≡_, refl, sym, _∙_, ap, subst, subst⁻¹}
+use mathlib.Core.List.{List, [], _++_, append-assoc, append-nil}
 use mathlib.Core.Bool.{Bool}
 use mathlib.Core.Logic.{_⊎_, inl, inr, _≢_}
-use Prim.Native.Nat.{ℕ, zero, suc, _+_, _-_, _<_, _≤_}
+use Prim.Native.Nat.{ℕ, _+_, _-_, _<_}
 use native.Mathlib.Omega.{arith}
 use lib.ListN.{length, set}
 use Rattle.std.specs.declared.option.Option.{Option}
@@ -16,7 +16,7 @@ use Rattle.ledger.specs.Lists.{Codes, Proper}
 use Rattle.ledger.specs.Diagrams.{Good, Sound}
 use Rattle.ledger.specs.Ledger.{lay, lists, codes}
 use Rattle.ledger.specs.Laid.{Laid}
-use Rattle.ledger.specs.Operations.{takes, make, join}
+use Rattle.ledger.specs.Operations.{takes, make}
 use Rattle.ledger.proofs.Drawn.{sound-front}
 use Rattle.ledger.proofs.Laying.{laid-known}
 use Rattle.ledger.proofs.Reading.{none-some, some-same}
@@ -27,19 +27,16 @@ use Rattle.memory.specs.Tables.{Told}
 use Rattle.joining.specs.Recalled.{Right, RightEntry}
 use Rattle.joining.specs.Pairs.{asked, joint, Settled, apart}
 use Rattle.joining.specs.Frames.{place-of, frame-at}
-use Rattle.joining.specs.Walks.{Waits, Held, Stack, Stands, Running, Coupled}
+use Rattle.joining.specs.Walks.{meeting, answered, Waits, Held, Stack, Running, Coupled}
 use Rattle.joining.specs.declared.pairs.Pair.{Pair}
 use Rattle.joining.specs.declared.pairs.Split.{Split}
 use Rattle.joining.specs.declared.frames.Frame.{Frame}
 use Rattle.joining.specs.declared.frames.Stage.{Stage}
 use Rattle.joining.specs.declared.frames.Stage.the-variants.{Outer, Inner}
-use Rattle.joining.specs.declared.turns.Turn.{Turn}
-use Rattle.joining.specs.declared.turns.Turn.the-variants.{Meet, Answer}
-use Rattle.joining.specs.declared.turns.State.{State}
 use Rattle.joining.proofs.Splits.{Parted, parted-is, parted-some}
 use Rattle.joining.proofs.Growing.{good-front, apart-front, joint-front, right-front, joint-proper, settled-good, settled-is}
 use Rattle.joining.proofs.Coupling.{Couples, couples}
-use Rattle.joining.proofs.Stacks.{Over, stack-push, stack-top, held-is, stack-longer}
+use Rattle.joining.proofs.Stacks.{Over, stack-push, stack-top, stack-longer}
 
 module _ {S : Type 0} (before : S → S → Bool) (order : Order before) (old : List (Vertex S)) (rule : ℕ) (goal : Codes S) (vs : List (Vertex S)) (table : Question → Option ℕ) (places : List Place) (height : ℕ) where
   -- the old vertices are the first of these
@@ -57,9 +54,9 @@ module _ {S : Type 0} (before : S → S → Bool) (order : Order before) (old : 
     old-apart pair first second = ap (λ (us : List (Vertex S)). apart before us pair) extends ∙ apart-front before order old more pair first second
 
   -- a pair is met
-  module _ (pair : Pair) (R : Running before old rule goal vs table places (record { height = height; turn = Meet pair })) where
+  module _ (pair : Pair) (R : Running before old rule goal vs table places (meeting height pair)) where
     abbrev Known : ℕ → Type 0
-    Known n = Running before old rule goal vs table places (record { height = height; turn = Answer n })
+    Known n = Running before old rule goal vs table places (answered height n)
 
     first : Good old (pair .first)
     first = R .stands .0
@@ -98,7 +95,7 @@ module _ {S : Type 0} (before : S → S → Bool) (order : Order before) (old : 
           (sym (old-apart (R .sound) (R .more) (R .extends) pair first second) ∙ e)
 
       pub turn-push : (s : Split S) → apart before vs pair ≡ Some s → height < length places →
-          Running before old rule goal vs table (set places height (place-of (record { pair = pair; stage = Outer }))) (record { height = height + 1; turn = Meet (s .outer) })
+          Running before old rule goal vs table (set places height (place-of (record { pair = pair; stage = Outer }))) (meeting (height + 1) (s .outer))
       turn-push s e room =
           let is = sym (old-apart (R .sound) (R .more) (R .extends) pair first second) ∙ e in
           let p : Parted before order old (old-sound (R .sound) (R .more) (R .extends)) (takes rule) pair s =
@@ -124,7 +121,7 @@ module _ {S : Type 0} (before : S → S → Bool) (order : Order before) (old : 
           }
 
   -- a number comes back to the top frame
-  module _ (n : ℕ) (some : 0 < height) (f : Frame) (top : f ≡ frame-at places (height - 1)) (R : Running before old rule goal vs table places (record { height = height; turn = Answer n })) where
+  module _ (n : ℕ) (some : 0 < height) (f : Frame) (top : f ≡ frame-at places (height - 1)) (R : Running before old rule goal vs table places (answered height n)) where
     base : List (Vertex S)
     base = R .stands .0
 
@@ -157,7 +154,7 @@ module _ {S : Type 0} (before : S → S → Bool) (order : Order before) (old : 
 
       -- on to the inner pair
       pub turn-inner : f .stage ≡ Outer → height - 1 < length places →
-          Running before old rule goal vs table (set places (height - 1) (place-of (record { pair = f .pair; stage = Inner n }))) (record { height = height; turn = Meet (s .inner) })
+          Running before old rule goal vs table (set places (height - 1) (place-of (record { pair = f .pair; stage = Inner n }))) (meeting height (s .inner))
       turn-inner stage room =
           let w : (R .stands .0 ≡ over .0 .base) × (R .stands .1 ≡ joint before old rule (over .0 .part .outer)) =
           subst (λ (x : Stage). Waits before old rule (over .0 .part) (over .0 .base) x (R .stands .0) (R .stands .1)) stage (over .0 .waits) in
@@ -216,7 +213,7 @@ module _ {S : Type 0} (before : S → S → Bool) (order : Order before) (old : 
             (omega arith, (R .more, o .1 ∙ R .extends))
 
         pub turn-couple : (m : ℕ) (told : Question → Option ℕ) → Coupled capacity vs (s .label) low n (Ok m) ws → Told table (asked rule (f .pair)) m told →
-            Running before old rule goal ws told places (record { height = height - 1; turn = Answer m })
+            Running before old rule goal ws told places (answered (height - 1) m)
         turn-couple m told c tells =
             let o = outcome (Ok m) c in
             let laid : Laid before (over .0 .base) (joint before old rule (f .pair)) ws m = o .0 in
@@ -252,14 +249,14 @@ module _ {S : Type 0} (before : S → S → Bool) (order : Order before) (old : 
 -- the walk begins
 pub begins : {S : Type 0} (before : S → S → Bool) (vs : List (Vertex S)) (rule : ℕ) (table : Question → Option ℕ) (places : List Place) (pair : Pair) →
     Sound before vs → Good vs (pair .first) → Good vs (pair .second) → Right before vs table →
-    Running before vs rule (joint before vs rule pair) vs table places (record { height = 0; turn = Meet pair })
+    Running before vs rule (joint before vs rule pair) vs table places (meeting 0 pair)
 unfolding Stack
 begins before vs rule table places pair sound first second right =
     record { sound = sound; more = []; extends = sym (append-nil vs); right = right; stands = (first, second, (refl, refl)) }
 
 -- and ends
 pub ends : {S : Type 0} (before : S → S → Bool) (old : List (Vertex S)) (rule : ℕ) (goal : Codes S) (vs : List (Vertex S)) (table : Question → Option ℕ) (places : List Place) (n : ℕ) →
-    Running before old rule goal vs table places (record { height = 0; turn = Answer n }) → Laid before old goal vs n
+    Running before old rule goal vs table places (answered 0 n) → Laid before old goal vs n
 unfolding Stack
 ends before old rule goal vs table places n R =
     let s = R .stands .2 in

@@ -6,18 +6,16 @@ use Prim.Native.Nat.{ℕ, zero, suc, _+_, _-_, _<_, _≤_}
 use native.Mathlib.Decide.{ℕ-discrete}
 use native.Mathlib.Numerals.{add-one}
 use native.Mathlib.Omega.{arith}
-use lib.ListN.{length, getD, set}
+use lib.ListN.{length, set}
 use Rattle.std.proofs.shelf.Lists.{length-set, getD-set-same, getD-set-other}
 use Rattle.memory.specs.declared.work.Place.{Place}
 use Rattle.joining.specs.Pairs.{sum}
 use Rattle.joining.specs.Frames.{frame-of, stored, place-of, bare, frame-at}
-use Rattle.joining.specs.Walks.{Fits, weigh, stage-cost, frame-cost, stack-cost, cost}
+use Rattle.joining.specs.Walks.{meeting, answered, Fits, weigh, stage-cost, frame-cost, stack-cost, cost}
 use Rattle.joining.specs.declared.pairs.Pair.{Pair}
 use Rattle.joining.specs.declared.frames.Frame.{Frame}
 use Rattle.joining.specs.declared.frames.Stage.{Stage}
 use Rattle.joining.specs.declared.frames.Stage.the-variants.{Outer, Inner}
-use Rattle.joining.specs.declared.turns.Turn.{Turn}
-use Rattle.joining.specs.declared.turns.Turn.the-variants.{Meet, Answer}
 use Rattle.joining.specs.declared.turns.State.{State}
 
 -- frames in places
@@ -107,16 +105,16 @@ written-frames places n height f h frames deep k low = by (ℕ-discrete k n)
 
 module _ (places : List Place) (height : ℕ) where
   -- a number is known for the pair
-  pub nearer-known : (pair : Pair) (n : ℕ) → Fits places (record { height = height; turn = Meet pair }) →
-      Nearer places (record { height = height; turn = Meet pair }) places (record { height = height; turn = Answer n })
+  pub nearer-known : (pair : Pair) (n : ℕ) → Fits places (meeting height pair) →
+      Nearer places (meeting height pair) places (answered height n)
   nearer-known pair n fits =
       let r = fits .reaches in
       let w = weigh-pos (sum pair) in
       record { fits = record { reaches = omega arith; frames = fits .frames }; falls = omega arith }
 
   -- a frame is written for the pair
-  pub nearer-push : (pair outer : Pair) → Fits places (record { height = height; turn = Meet pair }) → sum outer < sum pair →
-      Nearer places (record { height = height; turn = Meet pair }) (set places height (place-of (record { pair = pair; stage = Outer }))) (record { height = height + 1; turn = Meet outer })
+  pub nearer-push : (pair outer : Pair) → Fits places (meeting height pair) → sum outer < sum pair →
+      Nearer places (meeting height pair) (set places height (place-of (record { pair = pair; stage = Outer }))) (meeting (height + 1) outer)
   nearer-push pair outer fits low =
       let r = fits .reaches in
       let f : Frame = record { pair = pair; stage = Outer } in
@@ -132,13 +130,13 @@ module _ (places : List Place) (height : ℕ) where
         falls = omega arith;
       }
 
-  module _ (n : ℕ) (fits : Fits places (record { height = height; turn = Answer n })) (some : 0 < height) where
+  module _ (n : ℕ) (fits : Fits places (answered height n)) (some : 0 < height) where
     pub top-room : height - 1 < length places
     top-room = let r = fits .reaches in omega arith
 
     -- the top frame goes on to its inner pair
     pub nearer-inner : (f : Frame) (inner : Pair) → f ≡ frame-at places (height - 1) → f .stage ≡ Outer → sum inner < sum (f .pair) →
-        Nearer places (record { height = height; turn = Answer n }) (set places (height - 1) (place-of (record { pair = f .pair; stage = Inner n }))) (record { height = height; turn = Meet inner })
+        Nearer places (answered height n) (set places (height - 1) (place-of (record { pair = f .pair; stage = Inner n }))) (meeting height inner)
     nearer-inner f inner is outer low =
         let g : Frame = record { pair = f .pair; stage = Inner n } in
         let room = top-room in
@@ -160,7 +158,7 @@ module _ (places : List Place) (height : ℕ) where
         }
 
     -- the top frame goes
-    pub nearer-pop : (m : ℕ) → Nearer places (record { height = height; turn = Answer n }) places (record { height = height - 1; turn = Answer m })
+    pub nearer-pop : (m : ℕ) → Nearer places (answered height n) places (answered (height - 1) m)
     nearer-pop m =
         let r = fits .reaches in
         let t = cost-top places height some in

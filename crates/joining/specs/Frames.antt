@@ -5,7 +5,6 @@ use Prim.Native.Nat.{ℕ}
 use lib.Dec.{eqb}
 use lib.ListN.{getD}
 use Rattle.memory.specs.declared.work.Place.{Place}
-use Rattle.joining.specs.declared.pairs.Pair.{Pair}
 use Rattle.joining.specs.declared.frames.Frame.{Frame}
 use Rattle.joining.specs.declared.frames.Stage.{Stage}
 use Rattle.joining.specs.declared.frames.Stage.the-variants.{Outer, Inner}

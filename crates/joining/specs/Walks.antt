@@ -1,7 +1,7 @@
 -- The walk over pairs: what waits in the frames, what it stands for, and how many turns are left.
 use mathlib.Core.Path.{_≡_}
 use mathlib.Core.Bool.{Bool}
-use mathlib.Core.List.{List, [], _∷_, _++_}
+use mathlib.Core.List.{List, _++_}
 use mathlib.Core.Logic.{_⊎_, _≢_}
 use Prim.Native.Nat.{ℕ, zero, suc, _+_, _-_, _<_, _≤_}
 use lib.ListN.{length}
@@ -29,6 +29,13 @@ use Rattle.joining.specs.declared.frames.Stage.the-variants.{Outer, Inner}
 use Rattle.joining.specs.declared.turns.Turn.{Turn}
 use Rattle.joining.specs.declared.turns.Turn.the-variants.{Meet, Answer}
 use Rattle.joining.specs.declared.turns.State.{State}
+
+-- a pair is met, and a number comes back, above so many frames
+abbrev pub meeting : ℕ → Pair → State
+meeting height pair = record { height = height; turn = Meet pair }
+
+abbrev pub answered : ℕ → ℕ → State
+answered height n = record { height = height; turn = Answer n }
 
 -- the frames have room, whatever the vertices: a pair that is met, or waits, has a sum up to the places above it
 abbrev pub Reaches : List Place → ℕ → Turn → Type 0

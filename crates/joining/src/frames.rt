@@ -1,5 +1,5 @@
 // A frame: a pair that is being joined, kept in a place of work space.
-ghost use Prim.Native.Nat.{ℕ, _<_};
+ghost use Prim.Native.Nat.{_<_};
 ghost use lib.ListN.{length, set};
 ghost use mathlib.Core.Path.{_≡_};
 ghost use Rattle.joining.specs.Frames.{frame-of, place-of, frame-at};

@@ -4,7 +4,7 @@
 // shelf is full exactly where the ledger says so. A pair that the recall table knows, and one that the rule settles, is
 // not walked: with a table that keeps all, a pair is walked once at most. The work space needs a place for each frame,
 // and there are never more frames than the sum of the two numbers.
-ghost use Prim.Native.Nat.{ℕ, _+_, _<_, _≤_};
+ghost use Prim.Native.Nat.{_+_, _<_, _≤_};
 ghost use lib.ListN.{length, take};
 ghost use mathlib.Core.Bool.{true};
 ghost use mathlib.Core.Path.{_≡_};

@@ -1,9 +1,7 @@
 // A pair of list numbers that are to be joined, and how it is taken apart.
-ghost use Prim.Native.Nat.{ℕ, _<_, _≤_};
-ghost use mathlib.Core.Bool.{Bool, true, false, cond};
-ghost use mathlib.Core.List.{List};
+ghost use Prim.Native.Nat.{_<_};
+ghost use mathlib.Core.Bool.{true, false, cond};
 ghost use mathlib.Core.Path.{_≡_};
-ghost use Rattle.std.specs.declared.option.Option.{Option};
 ghost use Rattle.ledger.specs.Diagrams.{Formed};
 ghost use Rattle.joining.specs.Rules.{number-of};
 ghost use Rattle.joining.specs.Pairs.{Settles, Falls, parted, apart, asked, first-alone, second-alone, by-heads};

@@ -2,12 +2,10 @@
 //
 // A turn asks the recall table once at most and reads two vertices. It reads links through `read_vertex`, so pairs only
 // get lower, and the walk ends and stays within its frames on any memory.
-ghost use Prim.Native.Nat.{ℕ, _+_, _<_, _≤_};
-ghost use lib.ListN.{length};
+ghost use Prim.Native.Nat.{_+_, _<_};
 ghost use mathlib.Core.Path.{_≡_};
 ghost use Rattle.joining.specs.Rules.{number-of};
-ghost use Rattle.joining.specs.Walks.{Fits, cost, Goes, Turns, Comes-down, Coupled, Unended, Ended};
-ghost use Rattle.joining.specs.declared.turns.State.{State};
+ghost use Rattle.joining.specs.Walks.{meeting, answered, Fits, cost, Goes, Turns, Comes-down, Coupled, Unended, Ended};
 use crate::frames::Frame;
 use crate::frames::Stage;
 use crate::frames::read_frame;
@@ -45,10 +43,10 @@ fn meet<S: Symbol, B: Shelf<S>, R: RecallTable>(
     height: usize,
     pair: Pair,
 ) -> State
-    requires { ⌜ Fits (now work) (record { height = height; turn = Turn.Meet pair }) ⌝ }
+    requires { ⌜ Fits (now work) (meeting height pair) ⌝ }
     ensures fits { λ r. ⌜ Fits (now (work .exit)) r ⌝ }
-    ensures falls { λ r. ⌜ cost (now (work .exit)) r < cost (now (work .entry)) (record { height = height; turn = Turn.Meet pair }) ⌝ }
-    ensures goes { λ r. ⌜ Goes (S·Symbol .before) (number-of rule) (B·Shelf .vertices (now (shelf .entry))) (R·RecallTable .table (now (recall .entry))) (now (work .entry)) (record { height = height; turn = Turn.Meet pair }) (now (work .exit)) r ⌝ }
+    ensures falls { λ r. ⌜ cost (now (work .exit)) r < cost (now (work .entry)) (meeting height pair) ⌝ }
+    ensures goes { λ r. ⌜ Goes (S·Symbol .before) (number-of rule) (B·Shelf .vertices (now (shelf .entry))) (R·RecallTable .table (now (recall .entry))) (now (work .entry)) (meeting height pair) (now (work .exit)) r ⌝ }
 {
     if let Some(n) = shortcut(rule, pair) {
         return State {
@@ -104,10 +102,10 @@ fn answer<S: Symbol, B: Shelf<S>, R: RecallTable>(
     height: usize,
     n: u32,
 ) -> Result<State, Full>
-    requires fits { ⌜ Fits (now work) (record { height = height; turn = Turn.Answer n }) ⌝ }
+    requires fits { ⌜ Fits (now work) (answered height n) ⌝ }
     requires some { ⌜ 0 < height ⌝ }
-    ensures falls { λ r. ⌜ Comes-down (now (work .entry)) (record { height = height; turn = Turn.Answer n }) (now (work .exit)) r ⌝ }
-    ensures turns { λ r. ⌜ (B·Shelf .ready (now (shelf .entry)) → Turns (S·Symbol .before) (number-of rule) (B·Shelf .capacity (now (shelf .entry))) (B·Shelf .vertices (now (shelf .entry))) (R·RecallTable .table (now (recall .entry))) (now (work .entry)) (record { height = height; turn = Turn.Answer n })
+    ensures falls { λ r. ⌜ Comes-down (now (work .entry)) (answered height n) (now (work .exit)) r ⌝ }
+    ensures turns { λ r. ⌜ (B·Shelf .ready (now (shelf .entry)) → Turns (S·Symbol .before) (number-of rule) (B·Shelf .capacity (now (shelf .entry))) (B·Shelf .vertices (now (shelf .entry))) (R·RecallTable .table (now (recall .entry))) (now (work .entry)) (answered height n)
         (B·Shelf .vertices (now (shelf .exit))) (R·RecallTable .table (now (recall .exit))) (now (work .exit)) r) ⌝ }
     ensures ready { λ _. ⌜ (B·Shelf .ready (now (shelf .entry)) → B·Shelf .ready (now (shelf .exit))) ⌝ }
     ensures size { λ _. ⌜ B·Shelf .capacity (now (shelf .exit)) ≡ B·Shelf .capacity (now (shelf .entry)) ⌝ }

@@ -1,13 +1,12 @@
-use mathlib.Core.Path.{_≡_, refl, sym, _∙_, subst, subst⁻¹}
+use mathlib.Core.Path.{_≡_, refl, _∙_, subst}
 use native.Mathlib.Omega.{arith}
 use Prim.Native.Nat.{ℕ, _<_}
 use lib.ListN.{length}
 use Rattle.ledger.specs.Ledger.{lay, lists}
 use Rattle.joining.specs.Rules.{number-of}
 use Rattle.joining.specs.Pairs.{joint}
-use Rattle.joining.specs.Walks.{Running, Walked}
+use Rattle.joining.specs.Walks.{answered, Running, Walked}
 use Rattle.joining.specs.declared.turns.State.{State}
-use Rattle.joining.specs.declared.turns.Turn.the-variants.{Answer}
 use Rattle.joining.proofs.Refused.{at-err}
 use Rattle.joining.proofs.Turning.{begins, ends}
 use Rattle.joining.proofs.walk.Needs as need
@@ -23,7 +22,7 @@ returns-in-Some g c =
           let vs = g .B·Shelf .vertices (c .args .shelf .now) in
           let goal = joint (g .S·Symbol .before) vs (number-of (c .args .rule)) (c .args .pair) in
           let R = c .loop-n .inv .3 ready vs goal (begins (g .S·Symbol .before) vs (number-of (c .args .rule)) _ (c .args .work .now) (c .args .pair) sound first second right) in
-          let is : c .loop-n .state ≡ record { height = 0; turn = Answer (c .in-Some .n) } = λ i. record { height = e .0 i; turn = e .1 i } in (
+          let is : c .loop-n .state ≡ answered 0 (c .in-Some .n) = λ i. record { height = e .0 i; turn = e .1 i } in (
             ends (g .S·Symbol .before) vs (number-of (c .args .rule)) goal _ _ (c .loop-n .work) (c .in-Some .n)
                 (subst (λ (s : State). Running (g .S·Symbol .before) vs (number-of (c .args .rule)) goal (g .B·Shelf .vertices (c .loop-n .shelf)) (g .R·RecallTable .table (c .loop-n .recall)) (c .loop-n .work) s) is R),
             R .right,

@@ -1,5 +1,4 @@
-use mathlib.Core.Path.{_≡_, sym, _∙_, ap₂, subst}
-use mathlib.Core.List.{List}
+use mathlib.Core.Path.{sym, _∙_, ap₂, subst}
 use Prim.Native.Nat.{ℕ}
 use Rattle.std.specs.declared.option.Option.{Option}
 use Rattle.joining.specs.Pairs.{parted, Falls}

@@ -1,11 +1,10 @@
-use mathlib.Core.Path.{_≡_, refl, sym, subst, subst⁻¹}
+use mathlib.Core.Path.{refl, sym, subst, subst⁻¹}
 use mathlib.Core.List.{List}
 use Rattle.memory.specs.declared.recall.Question.{Question}
 use Rattle.memory.specs.declared.work.Place.{Place}
 use Rattle.memory.specs.Tables.{Told}
 use Rattle.joining.specs.Rules.{number-of}
-use Rattle.joining.specs.Walks.{Running, Leads, Comes-down}
-use Rattle.joining.specs.declared.turns.Turn.the-variants.{Meet, Answer}
+use Rattle.joining.specs.Walks.{meeting, answered, Running, Leads, Comes-down}
 use Rattle.joining.proofs.Refused.{at-err}
 use Rattle.joining.proofs.Weights.{Nearer, top-room, nearer-inner, nearer-pop}
 use Rattle.joining.proofs.Turning.{turn-lost, turn-inner, turn-full, turn-couple}
@@ -27,7 +26,7 @@ returns-in-rest g c =
 pub returns-in-Break-number : need.returns-in-Break-number
 returns-in-Break-number g c =
     record {
-      falls = at-err (λ r. Comes-down (c .args .work .now) (record { height = c .args .height; turn = Answer (c .args .n) }) (c .args .work .now) r) (c .from-residual .result) (c .from-residual .ensures .0) (λ e. tt);
+      falls = at-err (λ r. Comes-down (c .args .work .now) (answered (c .args .height) (c .args .n)) (c .args .work .now) r) (c .from-residual .result) (c .from-residual .ensures .0) (λ e. tt);
       turns = λ ready old goal R.
           at-err (λ r. Leads (g .S·Symbol .before) old (number-of (c .args .rule)) goal (g .B·Shelf .capacity (c .args .shelf .now)) (g .B·Shelf .vertices (c .couple .last .shelf)) (g .R·RecallTable .table (c .args .recall .now)) (c .args .work .now) r)
           (c .from-residual .result) (c .from-residual .ensures .0)
@@ -42,13 +41,13 @@ returns-in-Break-number g c =
 pub returns-in-Outer : need.returns-in-Outer
 returns-in-Outer g c =
     let near =
-    subst⁻¹ (λ (ps : List Place). Nearer (c .args .work .now) (record { height = c .args .height; turn = Answer (c .args .n) }) ps (record { height = c .args .height; turn = Meet (c .in-Some .split .inner) }))
+    subst⁻¹ (λ (ps : List Place). Nearer (c .args .work .now) (answered (c .args .height) (c .args .n)) ps (meeting (c .args .height) (c .in-Some .split .inner)))
     (c .write-frame .ensures)
     (nearer-inner (c .args .work .now) (c .args .height) (c .args .n) (c .pre .fits) (c .pre .some) (c .read-frame-frame .result) (c .in-Some .split .inner) (c .read-frame-frame .ensures) (c .in-Outer .is) (c .in-Some .ensures tt .below .1)) in
     record {
       falls = (near .fits, near .falls);
       turns = λ ready old goal R.
-          subst⁻¹ (λ (ps : List Place). Running (g .S·Symbol .before) old (number-of (c .args .rule)) goal (g .B·Shelf .vertices (c .args .shelf .now)) (g .R·RecallTable .table (c .args .recall .now)) ps (record { height = c .args .height; turn = Meet (c .in-Some .split .inner) }))
+          subst⁻¹ (λ (ps : List Place). Running (g .S·Symbol .before) old (number-of (c .args .rule)) goal (g .B·Shelf .vertices (c .args .shelf .now)) (g .R·RecallTable .table (c .args .recall .now)) ps (meeting (c .args .height) (c .in-Some .split .inner)))
           (c .write-frame .ensures)
           (turn-inner (g .S·Symbol .before) (g .S·Symbol·met .ordered) old (number-of (c .args .rule)) goal _ _ (c .args .work .now) (c .args .height) (c .args .n) (c .pre .some) (c .read-frame-frame .result) (c .read-frame-frame .ensures) R
           (c .in-Some .split) (sym (c .in-Some .ensures tt .value (R .sound .formed))) (c .in-Outer .is) (top-room (c .args .work .now) (c .args .height) (c .args .n) (c .pre .fits) (c .pre .some)));

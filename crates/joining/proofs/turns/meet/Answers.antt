@@ -1,12 +1,11 @@
-use mathlib.Core.Path.{_≡_, sym, _∙_, ap, subst⁻¹}
+use mathlib.Core.Path.{sym, _∙_, ap, subst⁻¹}
 use mathlib.Core.List.{List}
 use native.Mathlib.Omega.{arith}
 use Prim.Native.Nat.{_+_, _<_}
 use lib.ListN.{length}
 use Rattle.joining.specs.Rules.{number-of}
 use Rattle.memory.specs.declared.work.Place.{Place}
-use Rattle.joining.specs.Walks.{Running}
-use Rattle.joining.specs.declared.turns.Turn.the-variants.{Meet}
+use Rattle.joining.specs.Walks.{meeting, Running}
 use Rattle.joining.proofs.Weights.{Nearer, nearer-known, nearer-push}
 use Rattle.joining.proofs.Turning.{turn-settled, turn-recalled, turn-never, turn-push}
 use Rattle.joining.proofs.turns.meet.Needs as need
@@ -48,7 +47,7 @@ pub returns : need.returns
 returns g c =
     let low = c .in-Some-take-apart .ensures tt .below .0 in
     let near =
-    subst⁻¹ (λ (ps : List Place). Nearer (c .args .work .now) (record { height = c .args .height; turn = Meet (c .args .pair) }) ps (record { height = c .args .height + 1; turn = Meet (c .in-Some-take-apart .split .outer) }))
+    subst⁻¹ (λ (ps : List Place). Nearer (c .args .work .now) (meeting (c .args .height) (c .args .pair)) ps (meeting (c .args .height + 1) (c .in-Some-take-apart .split .outer)))
     (c .write-frame .ensures)
     (nearer-push (c .args .work .now) (c .args .height) (c .args .pair) (c .in-Some-take-apart .split .outer) (c .pre) low) in
     let open-pair = c .in-rest .ensures tt in
@@ -58,7 +57,7 @@ returns g c =
       fits = near .fits;
       falls = near .falls;
       goes = λ old goal R.
-          subst⁻¹ (λ (ps : List Place). Running (g .S·Symbol .before) old (number-of (c .args .rule)) goal (g .B·Shelf .vertices (c .args .shelf .now)) (g .R·RecallTable .table (c .args .recall .now)) ps (record { height = c .args .height + 1; turn = Meet (c .in-Some-take-apart .split .outer) }))
+          subst⁻¹ (λ (ps : List Place). Running (g .S·Symbol .before) old (number-of (c .args .rule)) goal (g .B·Shelf .vertices (c .args .shelf .now)) (g .R·RecallTable .table (c .args .recall .now)) ps (meeting (c .args .height + 1) (c .in-Some-take-apart .split .outer)))
           (c .write-frame .ensures)
           (turn-push (g .S·Symbol .before) (g .S·Symbol·met .ordered) old (number-of (c .args .rule)) goal _ _ (c .args .work .now) (c .args .height) (c .args .pair) R (open-pair .0) (open-pair .1)
           (c .in-Some-take-apart .split) (sym (c .in-Some-take-apart .ensures tt .value (R .sound .formed))) room);
