@@ -14,7 +14,8 @@ abbrev pub kind-text : Kind → List ℕ
 kind-text Letters = codes "LETTERS"
 kind-text Steps = codes "STEPS"
 
--- a command: list numbers, a code's text, the k of a pick, a rule and two lists, hexadecimal text
+-- what a line says: a list number and a code's text; a list number; a list number and k; a rule and two list numbers;
+-- hexadecimal text
 pub data Line : Type 0 where
   add : ℕ → List ℕ → Line
   remove : ℕ → List ℕ → Line

@@ -53,7 +53,7 @@ plain [] = false
 plain (b ∷ []) = true
 plain (b ∷ c ∷ bs) = not (eqb b 48)
 
--- a number of 64 bits, and one of 32 bits, in decimal
+-- a number of 64 bits in decimal
 abbrev pub number-of : List ℕ → Option ℕ
 number-of bs = cond (plain bs) (number-after 0 bs) None
 
@@ -61,6 +61,7 @@ number-of bs = cond (plain bs) (number-after 0 bs) None
 abbrev pub narrow : ℕ → Option ℕ
 narrow n = cond (ltb 4294967295 n) None (Some n)
 
+-- a number of 32 bits in decimal
 abbrev pub narrow-of : List ℕ → Option ℕ
 narrow-of bs = onto narrow (number-of bs)
 
@@ -92,7 +93,7 @@ word-of bs =
     (cond (sameBytes bs (codes "JOIN")) (Some words.Join)
     (cond (sameBytes bs (codes "RECEIVE")) (Some words.Receive) None))))))))
 
--- a command's fields, by its word
+-- what a word and the text after it say
 abbrev pub fields-of : List ℕ → Word → Option Line
 fields-of bs words.Add = mapped (λ q. add (q .0) (q .1)) (listed bs)
 fields-of bs words.Remove = mapped (λ q. remove (q .0) (q .1)) (listed bs)
@@ -104,5 +105,6 @@ fields-of bs words.Pick = onto (λ q. mapped (pick (q .0)) (number-of (q .1))) (
 fields-of bs words.Join = onto (λ q. onto (λ p. mapped (join (q .0) (p .0)) (narrow-of (p .1))) (listed (q .1))) (listed bs)
 fields-of bs words.Receive = cond (is-text bs) (Some (receive bs)) None
 
+-- what a line says, however long it is
 abbrev pub line-of : List ℕ → Option Line
 line-of bs = onto (λ p. onto (fields-of (p .1)) (word-of (p .0))) (field-of bs)
