@@ -1,11 +1,11 @@
 -- A text spelled letter by letter, and a code's text.
 use mathlib.Core.Path.{_≡_, refl, sym, ap, _∙_}
-use mathlib.Core.List.{List, [], _∷_, _++_, map}
+use mathlib.Core.List.{List, [], _∷_, _++_}
 use Prim.Native.Nat.{ℕ, _+_, _<_, _≤_}
 use native.Mathlib.Omega.{arith}
 use lib.ListN.{length, getD, take, drop, set, length-map}
 use lib.Seq.{take-all}
-use Rattle.std.proofs.shelf.Lists.{take-more, take-append-drop, drop-more, map-append, map-more, set-at, append-assoc, length-push, length-take-le}
+use Rattle.std.proofs.shelf.Lists.{take-more, take-append-drop, drop-more, map-more, set-at, append-assoc, length-take-le}
 use Rattle.std.specs.declared.result.Result.{Result}
 use Rattle.std.specs.declared.result.Result.the-variants.{Ok, Err}
 use Rattle.symbols.specs.declared.SymbolFault.{SymbolFault}

@@ -1,7 +1,7 @@
 // Letters: the bytes from 32 to 126, in order of value.
 //
 // A letter is one of 95 cases, so no value of the type is another byte. A code of letters has its bytes as its text: a space
-// and a slash are letters like any other, and nothing is trimmed.
+// and a slash are letters like any other, and nothing is trimmed. Reading looks at each byte twice, writing at each letter once.
 ghost use Prim.Native.Nat.{_*_, _%_, _^_};
 ghost use lib.Dec.{ltb};
 ghost use lib.ListN.{getD};

@@ -1,4 +1,5 @@
 pub mod Decimals
+mod Examples
 pub mod Laying
 pub mod Spelling
 pub mod Texts

@@ -1,11 +1,11 @@
 -- A text spells a code exactly if it is the code's text.
 use mathlib.Core.Path.{_≡_, refl, ap, sym, subst, _∙_}
-use mathlib.Core.Bool.{Bool, true, false, cond, not, _&&_}
+use mathlib.Core.Bool.{Bool, true, false, cond}
 use mathlib.Core.List.{List, [], _∷_, _++_, append-assoc}
 use Prim.Native.Nat.{ℕ, _+_, _-_, _*_, _/_, _%_, _<_, _≤_}
 use native.Mathlib.Omega.{arith}
-use lib.Dec.{leb, ltb, eqb}
-use lib.ListN.{length, drop}
+use lib.Dec.{eqb}
+use lib.ListN.{length}
 use borrow.Author.Tests.{eqb-true, ne-eqb}
 use Rattle.std.proofs.shelf.Decimals.{decimal-digit, decimal-by-steps}
 use Rattle.std.proofs.shelf.Ways.{tells}
@@ -13,7 +13,6 @@ use Rattle.std.specs.Options.{mapped, okOr}
 use Rattle.std.specs.Written.{decimal}
 use Rattle.std.specs.declared.option.Option.{Option}
 use Rattle.std.specs.declared.option.Option.the-variants.{Some, None}
-use Rattle.std.specs.declared.result.Result.{Result}
 use Rattle.std.specs.declared.result.Result.the-variants.{Ok, Err}
 use Rattle.std.specs.shelf.Lists.{All, joined}
 use Rattle.texts.specs.Texts.{OwnText}
@@ -21,7 +20,7 @@ use Rattle.texts.specs.declared.TextFault.{TextFault}
 use Rattle.texts.specs.declared.TextFault.the-variants.{Unreadable}
 use Rattle.steps.specs.Units.{unit-letter, unit-of-letter}
 use Rattle.steps.specs.Paths.{step-text, slashed, text-of, Short, Exact}
-use Rattle.steps.specs.Stages.{digit-of, grown, within, numbered, turned, with-done, ended, gone-on, steps-from, spelled}
+use Rattle.steps.specs.Stages.{digit-of, grown, within, numbered, turned, with-done, gone-on, steps-from, spelled}
 use Rattle.steps.specs.declared.Step.{Step}
 use Rattle.steps.specs.declared.Unit.{Unit as Kind}
 use Rattle.steps.specs.declared.reading.Stage.{Stage}
@@ -46,7 +45,7 @@ pub mapped-own : {A B : Type 0} (f : A → B) (o : Option A) (t : B) → mapped 
 mapped-own f None t e = absurd (let z : _≡_ {A = ℕ} 0 1 = cc in omega arith)
 mapped-own f (Some x) t e = (x, refl, cc)
 
-pub none-done : (o : Option (List Step)) → mapped (with-done None) o ≡ o
+none-done : (o : Option (List Step)) → mapped (with-done None) o ≡ o
 none-done None = refl
 none-done (Some code) = refl
 

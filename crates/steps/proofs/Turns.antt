@@ -10,11 +10,8 @@ use Rattle.std.proofs.shelf.Lists.{append-nil, drop-more, drop-all, length-push
 use Rattle.std.specs.Options.{mapped, okOr}
 use Rattle.std.specs.declared.option.Option.{Option}
 use Rattle.std.specs.declared.option.Option.the-variants.{Some, None}
-use Rattle.std.specs.declared.result.Result.{Result}
-use Rattle.std.specs.declared.result.Result.the-variants.{Ok, Err}
 use Rattle.texts.proofs.Filling.{filled-more}
 use Rattle.texts.specs.Texts.{filled}
-use Rattle.texts.specs.declared.TextFault.{TextFault}
 use Rattle.texts.specs.declared.TextFault.the-variants.{Unreadable}
 use Rattle.steps.specs.Units.{unit-of-letter}
 use Rattle.steps.specs.Stages.{digit-of, grown, within, numbered, turned, with-done, ended, gone-on, Kept, steps-from, spelled}
@@ -22,7 +19,7 @@ use Rattle.steps.specs.declared.Step.{Step}
 use Rattle.steps.specs.declared.reading.Stage.{Stage}
 use Rattle.steps.specs.declared.reading.Stage.the-variants.{Start, Lettered, Numbered}
 use Rattle.steps.specs.declared.reading.Turn.{Turn}
-use Rattle.steps.proofs.Spelling.{mapped-own, none-done}
+use Rattle.steps.proofs.Spelling.{mapped-own}
 
 -- the step that has begun
 abbrev pub pending : Stage → ℕ

@@ -1,9 +1,10 @@
 // Steps: a unit of the excavation and a number, in order by unit and then by number.
 //
-// By its cases and a number of full range, no value of the type is no step. A code of steps has a text such as T3/B20/P7.
+// By its cases and a number of full range, no value of the type is no step. A code of steps has a text such as T3/B20/P7: the
+// letter of each unit and the number in decimal, with slashes between. Reading looks at each byte twice, and writing at each
+// step twice: first to see that the call can succeed, since one that is refused changes nothing.
 ghost use Prim.Native.Nat.{_+_, _*_, _%_, _^_};
 ghost use mathlib.Core.Path.{_≡_};
-ghost use Rattle.std.specs.declared.result.Result.the-variants.{Ok};
 ghost use Rattle.texts.specs.Texts.{ReadTo};
 ghost use Rattle.steps.specs.Paths.{text-of, Exact};
 ghost use Rattle.steps.specs.Stages.{spelled};

@@ -1,6 +1,6 @@
 // Reading a code of steps from its text, one byte after another.
 //
-// A byte takes the reading from one stage to the next, or makes the text unreadable; each is looked at once.
+// A byte takes the reading from one stage to the next, or makes the text unreadable.
 ghost use Prim.Native.Nat.{_+_, _<_, _^_};
 ghost use mathlib.Core.Path.{_≡_};
 ghost use Rattle.texts.specs.Texts.{Begun};

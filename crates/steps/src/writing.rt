@@ -1,7 +1,7 @@
 // Writing a code of steps as its text.
 //
 // The length is found first, so that nothing is written where there is too little room.
-ghost use Prim.Native.Nat.{_+_, _<_, _≤_};
+ghost use Prim.Native.Nat.{_+_, _≤_};
 ghost use lib.ListN.{length};
 ghost use mathlib.Core.List.{_∷_};
 ghost use mathlib.Core.Logic.{_↔_};

@@ -1,9 +1,10 @@
 -- An output filled symbol by symbol, and a code read twice: once to see that it can be read, and once to keep it.
 use mathlib.Core.Path.{_≡_, refl, sym, ap, _∙_}
 use mathlib.Core.List.{List, [], _∷_, _++_}
-use Prim.Native.Nat.{ℕ, zero, suc}
+use Prim.Native.Nat.{ℕ, zero, suc, _≤_}
 use native.Mathlib.Omega.{arith}
 use lib.ListN.{length, take, drop, set}
+use Rattle.std.proofs.shelf.Lists.{take-all, take-at}
 use Rattle.std.specs.declared.result.Result.{Result}
 use Rattle.std.specs.declared.result.Result.the-variants.{Ok, Err}
 use Rattle.texts.specs.Texts.{filled, ReadTo, Begun}
@@ -41,3 +42,18 @@ module _ {S : Type 0} where
   pub read-again : (s : Result (List S) TextFault) (n : ℕ) (a b old new : List S) (r : Result ℕ TextFault) → Begun s a (Ok n) b → Begun s old r new → ReadTo s old r new
   read-again (Ok code) n a b old new r h k = k
   read-again (Err fault) n a b old new r h k = absurd (let z : _≡_ {A = ℕ} 0 1 = cc in omega arith)
+
+  -- what a caller learns of a reading
+  pub read-ok : (s : Result (List S) TextFault) (old new : List S) (n : ℕ) → ReadTo s old (Ok n) new → (code : List S) × (s ≡ Ok code) × (n ≡ length code) × (new ≡ filled code old)
+  read-ok (Ok code) old new n h = let e = h .0 in (code, refl, cc, h .1)
+  read-ok (Err fault) old new n h = absurd (let e = h .0 in let z : _≡_ {A = ℕ} 0 1 = cc in omega arith)
+
+  pub read-err : (s : Result (List S) TextFault) (fault : TextFault) (old new : List S) → ReadTo s old (Err fault) new → (s ≡ Err fault) × (new ≡ old)
+  read-err (Ok code) fault old new h = absurd (let e = h .0 in let z : _≡_ {A = ℕ} 0 1 = cc in omega arith)
+  read-err (Err fault₁) fault old new h = let e = h .0 in (cc, h .1)
+
+  -- a code that fits stands whole at the start
+  pub filled-whole : (code out : List S) → length code ≤ length out → take (length code) (filled code out) ≡ code
+  filled-whole code out h =
+      let all = take-all (length out) code h in
+      ap (λ s. take (length code) (s ++ drop (length code) out)) all ∙ take-at code (drop (length code) out) (length code) refl

@@ -1,6 +1,5 @@
 -- The number of each refusal of a text, and what it carries.
 use Prim.Native.Nat.{ℕ}
-use Rattle.symbols.specs.declared.SymbolFault.{SymbolFault}
 use Rattle.texts.specs.declared.TextFault.{TextFault}
 use Rattle.texts.specs.declared.TextFault.the-variants.{Unreadable, Symbol}
 

@@ -1,10 +1,6 @@
 use mathlib.Core.Path.{_≡_, refl}
-use Prim.Native.Nat.{ℕ, _<_}
+use Prim.Native.Nat.{ℕ}
 use native.Mathlib.Omega.{arith}
-use lib.ListN.{length}
-use Rattle.std.proofs.shelf.Lists.{take-all}
-use Rattle.std.specs.shelf.Lists.{joined}
-use Rattle.steps.specs.Paths.{slashed}
 use Rattle.steps.proofs.Texts.{length-text, fits-next, fits-no-more, fits-all}
 use Rattle.steps.proofs.writing.fits.Needs as need
 
