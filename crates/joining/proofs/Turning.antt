@@ -122,20 +122,11 @@ module _ {S : Type 0} (before : S → S → Bool) (order : Order before) (old : 
 
   -- a number comes back to the top frame
   module _ (n : ℕ) (some : 0 < height) (f : Frame) (top : f ≡ frame-at places (height - 1)) (R : Running before old rule goal vs table places (answered height n)) where
-    base : List (Vertex S)
-    base = R .stands .0
-
-    wanted : Codes S
-    wanted = R .stands .1
-
     come : Laid before (R .stands .0) (R .stands .1) vs n
     come = R .stands .3
 
     over : Over before order old rule goal places (height - 1) (R .stands .0) (R .stands .1) f
     over = subst⁻¹ (Over before order old rule goal places (height - 1) (R .stands .0) (R .stands .1)) top (stack-top before order old rule goal places height (R .stands .0) (R .stands .1) some (R .stands .2))
-
-    held : Held before old rule f (R .stands .0) (R .stands .1)
-    held = over .0
 
     same-apart : apart before vs (f .pair) ≡ apart before old (f .pair)
     same-apart = old-apart (R .sound) (R .more) (R .extends) (f .pair) (over .0 .first) (over .0 .second)

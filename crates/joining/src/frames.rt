@@ -1,4 +1,5 @@
-// A frame: a pair that is being joined, kept in a place of work space.
+// A frame: a pair that is being joined, kept in a place of work space. The place's `list` and `other` are the pair. Its
+// `state` is 0 while the outer lists are being joined; after that `number` is their number.
 ghost use Prim.Native.Nat.{_<_};
 ghost use lib.ListN.{length, set};
 ghost use mathlib.Core.Path.{_≡_};

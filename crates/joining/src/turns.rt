@@ -21,6 +21,7 @@ use memory::shelf::Shelf;
 use memory::work::Place;
 use symbols::Symbol;
 
+// A pair is met, or a number comes back.
 #[derive(Clone, Copy)]
 pub enum Turn {
     Meet(Pair),
@@ -160,6 +161,7 @@ pub fn ended(state: State) -> Option<u32>
     }
 }
 
+// One turn.
 pub fn advance<S: Symbol, B: Shelf<S>, R: RecallTable>(
     shelf: &mut B,
     recall: &mut R,
