@@ -5,3 +5,4 @@ pub mod Clearing
 pub mod Runs
 pub mod Stepping
 pub mod Picking
+pub mod Alike

@@ -30,7 +30,7 @@ use Rattle.counting.specs.Picks.{Short}
 use Rattle.store.specs.declared.fault.Fault.{Fault}
 use Rattle.store.specs.State.{State, Forgotten, Checked, check, check-lists, check-work}
 use Rattle.store.specs.Calls.{Joins, JoinedDown, ClearsOut, ClearedOut}
-use Rattle.store.specs.Run.{Run, fitted-out, adds, removes, joins, clears-out, unders, holds, looks, counts-codes, counts-vertices, picks, NumberIsList}
+use Rattle.store.specs.Run.{Run, fitted-out, adds, removes, joins, clears-out, unders, holds, looks, counts-codes, counts-vertices, picks, writes, NumberIsList}
 use Rattle.store.proofs.Checks.{good-list}
 use Rattle.store.proofs.Shortness.{AllShort, short-none, short-blank, down-short}
 use Rattle.store.proofs.Clearing.{gather-sound, gather-short, gather-few}
@@ -114,6 +114,7 @@ module _ {S : Type 0} (before : S → S → Bool) (order : Order before) (capaci
   run-stands travel (counts-codes list work r run step) = run-stands travel run
   run-stands travel (counts-vertices list work r run step) = run-stands travel run
   run-stands travel (picks list k out work r out′ run step) = run-stands travel run
+  run-stands travel (writes t list out work r out′ e run step) = run-stands travel run
 
   pub number-is-list : NumberIsList before capacity
   number-is-list travel s run =

@@ -13,6 +13,7 @@ use Rattle.std.specs.declared.option.Option.{Option}
 use Rattle.std.specs.declared.option.Option.the-variants.{Some, None}
 use Rattle.std.specs.declared.result.Result.{Result}
 use Rattle.std.specs.declared.result.Result.the-variants.{Ok, Err}
+use Rattle.symbols.specs.Wire.{Travel}
 use Rattle.ledger.specs.Lists.{Codes}
 use Rattle.ledger.specs.Diagrams.{look, parts, Reached, Counts}
 use Rattle.ledger.specs.Ledger.{lists, codes, number, Lays}
@@ -22,6 +23,7 @@ use Rattle.ledger.specs.Gather.{gather, renumber, Keeps}
 use Rattle.memory.specs.declared.recall.Question.{Question}
 use Rattle.memory.specs.declared.work.Place.{Place}
 use Rattle.joining.specs.Recalled.{RightEntry}
+use Rattle.wire.specs.Written.{written}
 use Rattle.store.specs.declared.fault.Fault.{Fault}
 use Rattle.store.specs.declared.fault.Fault.the-variants.{NoSuchList, CodeTooLong, NoSuchRule, ShortOutput, LittleWork, TooManyCodes, NoSuchCode, ShelfFull}
 use Rattle.store.specs.State.{State, Forgotten, check, check-lists, check-code, check-work, check-output, answered, Checked}
@@ -120,3 +122,12 @@ module _ {S : Type 0} (before : S → S → Bool) (capacity : ℕ) where
   ClearsOut s keep work r s′ keep′ =
       Checked (check-lists (s .vertices) 0 keep (check-work capacity work None)) r
       ((s′ ≡ s) × (keep′ ≡ keep)) (ClearedOut s keep r s′ keep′)
+
+  -- the dispatch of the list at the start of the output, and its length; bytes past it don't change
+  abbrev pub Written : List ℕ → List ℕ → Result ℕ Fault → List ℕ → Type 0
+  Written bytes out r out′ = (r ≡ Ok (length bytes)) × (out′ ≡ bytes ++ drop (length bytes) out)
+
+  abbrev pub Writes : Travel S → State S → ℕ → List ℕ → List Place → Result ℕ Fault → List ℕ → Type 0
+  Writes travel s list out work r out′ =
+      Checked (count-checks s list work (check (ltb (length out) (length (written before travel (codes (s .vertices) list)))) ShortOutput None)) r
+      (out′ ≡ out) (Written (written before travel (codes (s .vertices) list)) out r out′)

@@ -5,16 +5,18 @@ use mathlib.Core.Bool.{Bool}
 use mathlib.Core.List.{List, []}
 use mathlib.Core.Logic.{_↔_}
 use Prim.Native.Nat.{ℕ, _≤_}
-use lib.ListN.{length}
+use lib.ListN.{length, take}
 use Rattle.std.specs.declared.option.Option.{Option}
+use Rattle.std.specs.declared.option.Option.the-variants.{Some}
 use Rattle.std.specs.declared.result.Result.{Result}
+use Rattle.std.specs.declared.result.Result.the-variants.{Ok}
 use Rattle.symbols.specs.Wire.{Travel}
 use Rattle.ledger.specs.declared.Vertex.{Vertex}
 use Rattle.ledger.specs.Diagrams.{Good, SameCodes, Reached, Counts, IsDiagram}
 use Rattle.memory.specs.declared.work.Place.{Place}
 use Rattle.store.specs.declared.fault.Fault.{Fault}
 use Rattle.store.specs.State.{State, Forgotten}
-use Rattle.store.specs.Calls.{Adds, Removes, Joins, Unders, Holds, Looks, CountsCodes, CountsVertices, Picks, ClearsOut}
+use Rattle.store.specs.Calls.{Adds, Removes, Joins, Unders, Holds, Looks, CountsCodes, CountsVertices, Picks, ClearsOut, Writes}
 
 -- the states that runs lead to. Where symbols travel, `travel` says how; a run of other symbols has no use for it.
 pub data Run {S : Type 0} (before : S → S → Bool) (travel : Option (Travel S)) (capacity : ℕ) : State S → Type 0 where
@@ -40,6 +42,8 @@ pub data Run {S : Type 0} (before : S → S → Bool) (travel : Option (Travel S
       Run before travel capacity s → CountsVertices before capacity s list work r → Run before travel capacity s
   picks : {s : State S} (list k : ℕ) (out : List S) (work : List Place) (r : Result ℕ Fault) (out′ : List S) →
       Run before travel capacity s → Picks before capacity s list k out work r out′ → Run before travel capacity s
+  writes : {s : State S} (t : Travel S) (list : ℕ) (out : List ℕ) (work : List Place) (r : Result ℕ Fault) (out′ : List ℕ) →
+      travel ≡ Some t → Run before travel capacity s → Writes before capacity t s list out work r out′ → Run before travel capacity s
 
 -- a store that a run led to: its shelf is ready, and its state is that of the run
 pub record Stands {S : Type 0} (before : S → S → Bool) (travel : Option (Travel S)) (capacity : ℕ) (Ready : Type 0) (s : State S) : Type 0 where
@@ -70,3 +74,12 @@ NumberIsList {S} before capacity =
 -- from wherever a run led to, a call that only reads answers this
 abbrev pub Asks : {S : Type 0} → (S → S → Bool) → ℕ → Type 0 → State S → Type 0 → Type 0
 Asks {S} before capacity Ready s Answer = (travel : Option (Travel S)) → Stands before travel capacity Ready s → Answer
+
+-- a list written from one store and a list written from another, both accepted, give equal bytes, the whole dispatches
+-- compared, exactly when they have the same codes; whatever the stores' shelves, tables, capacities and runs
+abbrev pub WrittenAlike : {S : Type 0} → (S → S → Bool) → Travel S → Type 0
+WrittenAlike {S} before travel =
+    (capacity capacity′ : ℕ) (s s′ : State S) → Run before (Some travel) capacity s → Run before (Some travel) capacity′ s′ →
+    (m n : ℕ) (out out′ : List ℕ) (work work′ : List Place) (length length′ : ℕ) (exit exit′ : List ℕ) →
+    Writes before capacity travel s m out work (Ok length) exit → Writes before capacity′ travel s′ n out′ work′ (Ok length′) exit′ →
+    (take length exit ≡ take length′ exit′) ↔ SameCodes (s .vertices) m (s′ .vertices) n
