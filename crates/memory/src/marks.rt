@@ -23,13 +23,18 @@ pub fn number_marks(marks: &mut [Place]) -> u32
     let mut count: u32 = 0;
     for i in 0..marks.len() {
         let place = marks[i];
-        marks[i] = Place {
-            number: count + 2,
-            ..place
-        };
+        marks[i] = numbered(place, count + 2);
         count += u32::from(place.state != 0);
     }
     count
+}
+
+// The place with another number; its mark stays.
+fn numbered(place: Place, number: u32) -> Place
+    ensures value { λ r. ⌜ r .number ≡ number ⌝ }
+    ensures same { λ r. ⌜ r .state ≡ place .state ⌝ }
+{
+    Place { number, ..place }
 }
 
 // Whether a number is a terminal's or a marked vertex's.

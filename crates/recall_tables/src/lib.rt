@@ -1,9 +1,9 @@
 // Two recall tables: one that keeps nothing, and one in a run of slots that it is handed.
 //
 // Every call of either takes constant time, `forget` too, and the slots may hold anything at the start: no call ever
-// goes over them all. What makes that right is that each full slot is named twice. The table counts turns; the slot has
-// the turn in which it was filled, and the record at that turn's place has the slot's number. Old content that names
-// itself only once is not an entry, and with no turns there is none at all.
+// goes over them all. The table counts the turns in which it filled a slot. A full slot has its turn, and the record at
+// that turn's place has a note of the slot's number; what lay in memory before is never an entry, since the notes of
+// the turns so far are the table's own. With no turns there is no entry, so to forget is to count from 0 again.
 ghost use denote.Ref.{now};
 ghost use mathlib.Core.Path.{_≡_};
 ghost use Rattle.std.specs.declared.option.Option.the-variants.{None};
@@ -70,7 +70,8 @@ pub impl<'a> RecallTable for SlotTable<'a> as SlotTableRecallTable {
         slots::recall(self.slots, self.turns, question)
     }
 
-    // Beyond what every table promises: with a slot at all the entry is there then, and entries in other slots stay.
+    // Beyond what every table promises: with a slot at all the entry is there then, and while there are fewer turns than
+    // slots the entries in other slots stay.
     fn tell(&mut self, question: Question, answer: u32)
         ensures { λ _. ⌜ Told (held (now (now (self .entry) .slots)) (now (self .entry) .turns)) question answer (held (now (now (self .exit) .slots)) (now (self .exit) .turns)) ⌝ ∗ ⌜ Recalls (now (now (self .entry) .slots)) question answer (held (now (now (self .exit) .slots)) (now (self .exit) .turns)) ⌝ ∗ ⌜ Spares (now (now (self .entry) .slots)) (now (self .entry) .turns) question (held (now (now (self .exit) .slots)) (now (self .exit) .turns)) ⌝ }
     {

@@ -51,15 +51,13 @@ pub impl<'a, S: Symbol> Shelf<S> for RowShelf<'a, S> as RowShelfShelf {
     }
 
     fn look(&self, n: u32) -> Option<(S, u32, u32)> {
-        run::look(self.run, self.used.min(run::capacity(self.run.len())), n)
+        let used = self.used.min(run::capacity(self.run.len()));
+        run::look(self.run, used, n)
     }
 
     fn find(&self, label: S, zero: u32, one: u32) -> Option<u32> {
-        run::find(
-            self.run,
-            self.used.min(run::capacity(self.run.len())),
-            Vertex { label, zero, one },
-        )
+        let used = self.used.min(run::capacity(self.run.len()));
+        run::find(self.run, used, Vertex { label, zero, one })
     }
 
     fn append(&mut self, label: S, zero: u32, one: u32) -> Result<u32, Full> {

@@ -1,4 +1,4 @@
-use mathlib.Core.Path.{_≡_, refl, ap, _∙_}
+use mathlib.Core.Path.{_≡_, ap, _∙_}
 use native.Mathlib.Omega.{arith}
 use lib.ListN.{length}
 use Rattle.ledger.specs.Gather.{marked-before}
@@ -9,18 +9,19 @@ use Rattle.memory.proofs.marks.number_marks.Needs as need
 pub loop-i-holds : need.loop-i-holds
 loop-i-holds c = numbering-none (c .args .marks .now)
 
-pub add-marks : need.add-marks
-add-marks c = omega (arith, c .loop-i .inv .counted, before-few (marks-in (c .args .marks .now)) (c .loop-i .i))
-
 pub add-count : need.add-count
-add-count c =
+add-count c = omega (arith, c .loop-i .inv .counted, before-few (marks-in (c .args .marks .now)) (c .loop-i .i))
+
+pub add-count-in-loop-i : need.add-count-in-loop-i
+add-count-in-loop-i c =
     let one = mark-few (c .from-count .result) _ (c .from-count .ensures) in
     omega (arith, c .loop-i .inv .counted, before-few (marks-in (c .args .marks .now)) (c .loop-i .i))
 
 pub loop-i-again : need.loop-i-again
 loop-i-again c =
     simp (c .from-count .ensures)
-    (numbering-more (c .args .marks .now) (c .loop-i .marks) (c .loop-i .count) (c .loop-i .i) _ _ (omega arith) refl refl (c .loop-i .inv))
+    (numbering-more (c .args .marks .now) (c .loop-i .marks) (c .loop-i .count) (c .loop-i .i) (c .numbered .result) _
+    (omega arith) (c .numbered .ensures .same) (c .numbered .ensures .value) (c .loop-i .inv))
 
 pub returns : need.returns
 returns c =
