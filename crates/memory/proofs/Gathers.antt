@@ -4,7 +4,7 @@ use Prim.Native.Nat.{ℕ, zero, suc, _+_, _<_, _≤_}
 use mathlib.Core.Bool.{Bool, true, false}
 use mathlib.Core.List.{List, [], _∷_, map}
 use mathlib.Core.Logic.{_↔_, _⊎_, inl, inr}
-use mathlib.Core.Path.{_≡_, refl, sym, ap, ap₂, _∙_}
+use mathlib.Core.Path.{_≡_, refl, ap₂}
 use native.Mathlib.Omega.{arith}
 use lib.ListN.{length, getD}
 use Rattle.std.specs.Finite.{nth}
@@ -13,10 +13,10 @@ use Rattle.std.proofs.shelf.Lists.{length-map}
 use Rattle.std.proofs.shelf.Tests.{cases-bool, cases-eq, false≢true}
 use Rattle.ledger.specs.declared.Vertex.{Vertex}
 use Rattle.ledger.specs.Diagrams.{look}
-use Rattle.ledger.specs.Gather.{keep, renumber, renumbered, gather, Marked, Gatherable}
+use Rattle.ledger.specs.Gather.{keep, renumbered, gather, Marked, Gatherable}
 use Rattle.ledger.proofs.Canon.{vertex-good}
 use Rattle.memory.specs.declared.work.Place.{Place}
-use Rattle.memory.specs.Marks.{noted, noted-vertex, BothStay, AllStay}
+use Rattle.memory.specs.Marks.{noted-vertex, BothStay, AllStay}
 use Rattle.memory.specs.Shelves.{is-mark, marks-in, Renumbered}
 use Rattle.memory.proofs.Marking.{noted-new}
 

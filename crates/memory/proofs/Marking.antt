@@ -1,7 +1,7 @@
 -- Marks in places: reading one, counting them, and the numbers that the places get.
 use Prim.Native.Nat.{ℕ, zero, suc, _+_, _-_, _<_, _≤_}
 use mathlib.Core.Bool.{Bool, true, false, not}
-use mathlib.Core.List.{List, [], _∷_, map}
+use mathlib.Core.List.{List, [], _∷_}
 use mathlib.Core.Logic.{_↔_, _⊎_, inl, inr}
 use mathlib.Core.Path.{_≡_, refl, sym, ap, _∙_}
 use native.Mathlib.Omega.{arith}
@@ -11,10 +11,9 @@ use lib.ListN.{length, getD, set}
 use mir.Val.{boolByte}
 use Rattle.std.proofs.shelf.Lists.{getD-map, getD-past, length-map, map-set, set-getD, getD-set-same, getD-set-other}
 use Rattle.std.proofs.shelf.Tests.{both-ways, cases-eq}
-use Rattle.ledger.specs.declared.Vertex.{Vertex}
-use Rattle.ledger.specs.Gather.{marked-before, renumber, renumbered, Marked}
+use Rattle.ledger.specs.Gather.{marked-before, renumber, Marked}
 use Rattle.memory.specs.declared.work.Place.{Place}
-use Rattle.memory.specs.Marks.{number-at, noted, noted-vertex}
+use Rattle.memory.specs.Marks.{number-at, noted}
 use Rattle.memory.specs.Shelves.{is-mark, marks-in, Renumbered}
 
 -- what a place says of its vertex

@@ -1,7 +1,7 @@
 // Gathering by marks, as far as it is the same on every shelf: place k speaks of the vertex with number k + 2.
 //
 // The marks are counted once, and each place then has its vertex's new number; after that a link costs one read.
-ghost use Prim.Native.Nat.{ℕ, _+_, _<_, _≤_};
+ghost use Prim.Native.Nat.{_+_, _≤_};
 ghost use lib.ListN.{length};
 ghost use mathlib.Core.Bool.{true};
 ghost use mathlib.Core.Logic.{_↔_};

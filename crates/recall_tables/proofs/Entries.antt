@@ -1,5 +1,5 @@
 -- An entry, part by part: the slot that it stands in, and the note of the turn in which it came.
-use Prim.Native.Nat.{ℕ, suc, _*_, _/_, _<_, _≤_}
+use Prim.Native.Nat.{ℕ, _*_, _/_, _<_, _≤_}
 use lib.Dec.{ltb, eqb}
 use lib.ListN.{length, getD}
 use mathlib.Core.Bool.{true, false, _&&_}

@@ -6,8 +6,6 @@ use mathlib.Core.Logic.{_⊎_, inl, inr, ⊎-elim}
 use mathlib.Core.Path.{_≡_, refl, sym, ap, subst, _∙_}
 use native.Mathlib.Omega.{arith}
 use lib.ListN.{length, getD, take, drop, set}
-use Rattle.std.specs.Finite.{nth}
-use Rattle.std.specs.declared.option.Option.{Option}
 use Rattle.std.specs.declared.option.Option.the-variants.{Some, None}
 use Rattle.std.proofs.shelf.Lists.{append-nil, drop-drop, drop-set-lt, getD-default, getD-drop, getD-take, length-set, length-take, length-take-le, map-append, take-all, take-more, take-more-set, take-take}
 use Rattle.std.proofs.shelf.Maps.{nth-past, nth-read}

@@ -2,7 +2,6 @@
 //
 // A find costs a step for each vertex, so this shelf suits few vertices, or little memory: it takes no records beyond
 // the vertices. To look, to append and to cut cost one step, and to gather costs a step for each vertex.
-ghost use Prim.Native.Nat.{ℕ, _≤_};
 ghost use denote.Ref.{now};
 ghost use mathlib.Core.List.{[]};
 ghost use mathlib.Core.Path.{_≡_};

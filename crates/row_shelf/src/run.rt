@@ -1,5 +1,5 @@
 // What the shelf does, on the run of records that it is handed: the first `used` of them are its vertices.
-ghost use Prim.Native.Nat.{ℕ, _≤_, min};
+ghost use Prim.Native.Nat.{_≤_, min};
 ghost use lib.ListN.{length, take};
 ghost use mathlib.Core.Bool.{true};
 ghost use mathlib.Core.List.{List, map};
