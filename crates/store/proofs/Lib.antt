@@ -6,3 +6,4 @@ pub mod Runs
 pub mod Stepping
 pub mod Picking
 pub mod Alike
+pub mod Keeping
