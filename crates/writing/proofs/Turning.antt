@@ -19,27 +19,28 @@ use Rattle.writing.proofs.Meeting.{met-long, sparse-more, numbers-more, room}
 use Rattle.writing.proofs.Stacking.{length-waiting, waiting-last, waiting-push, stacked-push, stacked-few, stacked-pop, less-push, less-meet, first-small, stacked-start}
 use Rattle.writing.proofs.Unwinding.{link-first, vertex-last, starts-all}
 
-module _ (seen stack : List Place) (c : Course) (fits : length seen ≤ length stack) (w : Walking seen stack c) (some : c .depth ≡ 0 → ⊥) where
-  -- the last that waits, and the others
-  abbrev last : ℕ
-  last = list-at stack (c .depth - 1)
+-- the last that waits lies on the stack
+pub in-stack : (seen stack : List Place) (c : Course) → length seen ≤ length stack → Walking seen stack c → (c .depth ≡ 0 → ⊥) → (0 < c .depth) × (c .depth ≤ length stack)
+in-stack seen stack c fits w some =
+    let few = stacked-few seen (c .met) (list-at stack (c .depth - 1)) (waiting stack (c .depth - 1)) (subst (Stacked seen (c .met)) (waiting-last stack (c .depth) (omega arith)) (w .2)) in
+    (omega arith, omega (arith, length-waiting stack (c .depth - 1)))
 
+module _ (seen stack : List Place) (c : Course) (fits : length seen ≤ length stack) (w : Walking seen stack c) (some : c .depth ≡ 0 → ⊥)
+    (last : ℕ) (is-last : last ≡ list-at stack (c .depth - 1)) where
+  -- the others that wait
   abbrev others : List ℕ
   others = waiting stack (c .depth - 1)
 
   there : waiting stack (c .depth) ≡ last ∷ others
-  there = waiting-last stack (c .depth) (omega arith)
+  there = waiting-last stack (c .depth) (omega arith) ∙ ap (λ n. n ∷ others) (sym is-last)
 
   stacked : Stacked seen (c .met) (last ∷ others)
   stacked = subst (Stacked seen (c .met)) there (w .2)
 
-  pub in-stack : c .depth - 1 < length stack
-  in-stack = let h = stacked-few seen (c .met) last others stacked in omega (arith, length-waiting stack (c .depth - 1))
-
-  pub last-good : (2 ≤ list-at stack (c .depth - 1)) × (list-at stack (c .depth - 1) ≤ length seen + 1)
+  pub last-good : (2 ≤ last) × (last ≤ length seen + 1)
   last-good = (stacked .0, let h = stacked .1 in omega arith)
 
-  module _ (link : ℕ) (below : link < list-at stack (c .depth - 1)) (low : 2 ≤ link) (new : Unmet seen (c .met) link) where
+  module _ (link : ℕ) (below : link < last) (low : 2 ≤ link) (new : Unmet seen (c .met) link) where
     pushed : Stacked seen (c .met) (link ∷ last ∷ others)
     pushed = stacked-push seen (c .met) link last others below low new stacked
 
@@ -61,7 +62,7 @@ module _ (seen stack : List Place) (c : Course) (fits : length seen ≤ length s
       )
 
       pub link-leads : {S : Type 0} (before : S → S → Bool) (order : Order before) (vs : List (Vertex S)) (sound : Sound before vs) → length seen ≡ length vs →
-          Unmet seen (c .met) (list-at stack (c .depth - 1)) → NextLink vs seen (c .met) (list-at stack (c .depth - 1)) (Some link) →
+          Unmet seen (c .met) last → NextLink vs seen (c .met) last (Some link) →
           TurnsTo before vs seen stack c (Some (record { met = c .met; depth = c .depth + 1 })) seen st
       link-leads before order vs sound size unmet next =
           let row = map (codes vs) (met-numbers seen (c .met)) in
@@ -69,13 +70,13 @@ module _ (seen stack : List Place) (c : Course) (fits : length seen ≤ length s
           ap (laying-all before vs others) (link-first before order vs sound seen (c .met) (w .1) size last (next .0) (next .1) unmet link (next .2)) ∙
           ap (λ ns. laying-all before vs ns row) (sym there)
 
-  pub last-unmet : Unmet seen (c .met) (list-at stack (c .depth - 1))
+  pub last-unmet : Unmet seen (c .met) last
   last-unmet = stacked .2
 
   pub has-place : c .met < length seen
   has-place = room seen (c .met) last (w .1) (stacked .2) (last-good .0) (last-good .1)
 
-  module _ (now-seen : List Place) (is : now-seen ≡ with-met seen (c .met) (list-at stack (c .depth - 1))) where
+  module _ (now-seen : List Place) (is : now-seen ≡ with-met seen (c .met) last) where
     up : suc (c .met) ≡ c .met + 1
     up = omega arith
 
@@ -97,7 +98,7 @@ module _ (seen stack : List Place) (c : Course) (fits : length seen ≤ length s
     vertex-turns = subst⁻¹ (λ s. Turns seen stack c (Some (record { met = c .met + 1; depth = c .depth - 1 })) s stack) is meets
 
     pub vertex-leads : {S : Type 0} (before : S → S → Bool) (order : Order before) (vs : List (Vertex S)) (sound : Sound before vs) → length seen ≡ length vs →
-        NextLink vs seen (c .met) (list-at stack (c .depth - 1)) None →
+        NextLink vs seen (c .met) last None →
         TurnsTo before vs seen stack c (Some (record { met = c .met + 1; depth = c .depth - 1 })) now-seen stack
     vertex-leads before order vs sound size next =
         let row = map (codes vs) (met-numbers seen (c .met)) in

@@ -6,7 +6,7 @@ ghost use mathlib.Core.List.{map, []};
 ghost use mathlib.Core.Path.{_≡_};
 ghost use Rattle.ledger.specs.Diagrams.{Formed, Sound};
 ghost use Rattle.ledger.specs.Ledger.{codes, lay};
-ghost use Rattle.writing.specs.Met.{Sparse, met-numbers};
+ghost use Rattle.writing.specs.Met.{Sparse, list-at, met-numbers};
 ghost use Rattle.writing.specs.Walks.{waiting-place, NextBelow, NextLink, Walking, Turns, TurnsTo, Starts};
 use crate::met::is_unmet;
 use crate::met::meet;
@@ -56,6 +56,15 @@ fn push(stack: &mut [Place], depth: u32, n: u32)
     };
 }
 
+// The number that waits last.
+fn last_waiting(stack: &[Place], depth: u32) -> u32
+    requires { ⌜ (0 < depth) × (depth ≤ length (now stack)) ⌝ }
+    ensures { λ r. ⌜ r ≡ list-at (now (stack .entry)) (depth - 1) ⌝ }
+{
+    let place = stack[(depth - 1) as usize];
+    place.list
+}
+
 // The last vertex that waits gives way to a link that is not met, or is met itself; nothing where none waits.
 fn turn<S: Symbol, B: Shelf<S>>(
     shelf: &B,
@@ -72,8 +81,8 @@ fn turn<S: Symbol, B: Shelf<S>>(
     if course.depth == 0 {
         return None;
     }
-    let last = stack[(course.depth - 1) as usize];
-    match next_link(shelf, last.list, seen, course.met) {
+    let last = last_waiting(stack, course.depth);
+    match next_link(shelf, last, seen, course.met) {
         Some(link) => {
             push(stack, course.depth, link);
             Some(Course {
@@ -82,7 +91,7 @@ fn turn<S: Symbol, B: Shelf<S>>(
             })
         }
         None => {
-            meet(seen, course.met, last.list);
+            meet(seen, course.met, last);
             Some(Course {
                 met: course.met + 1,
                 depth: course.depth - 1,
