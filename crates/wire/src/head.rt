@@ -65,8 +65,25 @@ pub fn write_head(head: Head, out: &mut [u8])
     requires { ⌜ 14 ≤ length (now out) ⌝ }
     ensures { λ _. ⌜ now (out .exit) ≡ head-bytes head ++ drop 14 (now (out .entry)) ⌝ }
 {
-    out[0..4].copy_from_slice(&head.whole.to_be_bytes());
-    out[4..6].copy_from_slice(&[head.version, head.kind]);
-    out[6..10].copy_from_slice(&head.count.to_be_bytes());
-    out[10..14].copy_from_slice(&head.root.to_be_bytes());
+    let [l0, l1, l2, l3] = head.whole.to_be_bytes();
+    let [c0, c1, c2, c3] = head.count.to_be_bytes();
+    let [r0, r1, r2, r3] = head.root.to_be_bytes();
+    out[..14].copy_from_slice(
+        &[
+            l0,
+            l1,
+            l2,
+            l3,
+            head.version,
+            head.kind,
+            c0,
+            c1,
+            c2,
+            c3,
+            r0,
+            r1,
+            r2,
+            r3,
+        ],
+    );
 }

@@ -3,6 +3,7 @@ ghost use Prim.Native.Nat.{_+_, _-_, _*_, _≤_};
 ghost use lib.ListN.{length, drop};
 ghost use mathlib.Core.List.{_++_};
 ghost use mathlib.Core.Path.{_≡_};
+ghost use Rattle.ledger.specs.Dispatch.{be4};
 ghost use Rattle.wire.specs.Records.{travel, record-of, record-bytes, zero-after};
 use crate::faults::RecordFault;
 use crate::faults::RecordFromSymbol;
@@ -47,13 +48,21 @@ pub fn zero_label_after<S: WireSymbol>(label: S, zero: u32, records: &[u8]) -> b
     }
 }
 
+// Writes two links to the start of `out`.
+fn write_links(zero: u32, one: u32, out: &mut [u8])
+    requires { ⌜ 8 ≤ length (now out) ⌝ }
+    ensures { λ _. ⌜ now (out .exit) ≡ be4 zero ++ (be4 one ++ drop 8 (now (out .entry))) ⌝ }
+{
+    let [z0, z1, z2, z3] = zero.to_be_bytes();
+    let [o0, o1, o2, o3] = one.to_be_bytes();
+    out[..8].copy_from_slice(&[z0, z1, z2, z3, o0, o1, o2, o3]);
+}
+
 // Writes the record of a vertex to the start of `out`.
 pub fn write_record<S: WireSymbol>(v: &Vertex<S>, out: &mut [u8])
     requires { ⌜ S·WireSymbol .width + 8 ≤ length (now out) ⌝ }
     ensures { λ _. ⌜ now (out .exit) ≡ record-bytes (S·WireSymbol .bytes) (now (v .entry)) ++ drop (S·WireSymbol .width + 8) (now (out .entry)) ⌝ }
 {
-    let width = S::width();
     v.label.write(out);
-    out[width..width + 4].copy_from_slice(&v.zero.to_be_bytes());
-    out[width + 4..width + 8].copy_from_slice(&v.one.to_be_bytes());
+    write_links(v.zero, v.one, &mut out[S::width()..]);
 }

@@ -1,0 +1,4 @@
+pub mod Met
+pub mod Walks
+pub mod Records
+pub mod Writes
