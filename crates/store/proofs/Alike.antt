@@ -7,7 +7,8 @@ use Prim.Native.Nat.{ℕ, _+_, _≤_}
 use native.Mathlib.Omega.{arith}
 use lib.Dec.{ltb}
 use lib.ListN.{length, take, drop}
-use Rattle.std.proofs.shelf.Lists.{take-at}
+use Rattle.std.proofs.shelf.Lists.{take-at, length-append}
+use Rattle.std.proofs.shelf.Tests.{le-ltb, lt-ltb}
 use Rattle.std.specs.declared.option.Option.{Option}
 use Rattle.std.specs.declared.option.Option.the-variants.{Some, None}
 use Rattle.std.specs.declared.result.Result.{Result}
@@ -24,7 +25,9 @@ use Rattle.store.specs.declared.fault.Fault.the-variants.{NoSuchList, ShortOut
 use Rattle.store.specs.State.{State, Checked, check, check-lists, check-work}
 use Rattle.store.specs.Calls.{Writes, Written, count-checks}
 use Rattle.store.specs.Run.{Run, WrittenAlike}
-use Rattle.store.proofs.Checks.{good-list}
+use Rattle.writing.specs.Writes as writing
+use Rattle.writing.specs.declared.ShortOutput.{ShortOutput as ShortOut}
+use Rattle.store.proofs.Checks.{good-list, then-comes, refuses}
 use Rattle.store.proofs.Standing.{passes}
 use Rattle.store.proofs.Runs.{run-stands}
 
@@ -52,3 +55,22 @@ module _ {S : Type 0} (before : S → S → Bool) (order : Order before) (travel
       let st′ = run-stands before order capacity′ (Some travel) run′ in
       let alike = dispatches-alike before order (travel .kind) (travel .width) (travel .bytes) (travel .reads) laws (s .vertices) (s′ .vertices) (st .sound) (st′ .sound) (omega (arith, st .few, st .small)) (omega (arith, st′ .few, st′ .small)) m n (a .0) (b .0) in
       (λ e. alike .0 (sym (a .1) ∙ e ∙ b .1), λ same. a .1 ∙ alike .1 same ∙ sym (b .1))
+
+module _ {S : Type 0} (before : S → S → Bool) (capacity : ℕ) (travel : Travel S) (s : State S) (list : ℕ) (out out′ : List ℕ) (work : List Place)
+    (passed : (behind : Option Fault) → count-checks before capacity s list work behind ≡ behind) where
+  -- the walk wrote, and what it wrote had room
+  pub writes-ok : (n : ℕ) → writing.Writes {F = ShortOut} (written before travel (codes (s .vertices) list)) out (Ok n) out′ → length out′ ≡ length out →
+      Writes before capacity travel s list out work (Ok n) out′
+  writes-ok n w long =
+      let bytes = written before travel (codes (s .vertices) list) in
+      let e = w .0 in
+      let room : length bytes ≤ length out = omega (arith, ap length (w .1), length-append bytes (drop n out)) in
+      then-comes (count-checks before capacity s list work (check (ltb (length out) (length bytes)) ShortOutput None)) (Ok n) (out′ ≡ out) (Written before capacity bytes out (Ok n) out′)
+      (passed _ ∙ ap (λ b. check b ShortOutput None) (le-ltb (length out) (length bytes) room)) (ap Ok e, w .1 ∙ ap (λ (k : ℕ). bytes ++ drop k out) e)
+
+  -- the output was too short, and nothing was written
+  pub writes-not : (e : ShortOut) → writing.Writes (written before travel (codes (s .vertices) list)) out (Err e) out′ → Writes before capacity travel s list out work (Err ShortOutput) out′
+  writes-not e w =
+      let bytes = written before travel (codes (s .vertices) list) in
+      refuses ℕ (count-checks before capacity s list work (check (ltb (length out) (length bytes)) ShortOutput None)) ShortOutput (out′ ≡ out) (Written before capacity bytes out (Err ShortOutput) out′)
+      (passed _ ∙ ap (λ b. check b ShortOutput None) (lt-ltb (length out) (length bytes) (w .0))) (w .1)

@@ -4,3 +4,4 @@ pub mod clears;
 pub mod fault;
 pub mod lays;
 pub mod store;
+pub mod travels;
