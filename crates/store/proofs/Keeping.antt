@@ -81,8 +81,8 @@ module _ {S : Type 0} (before : S → S → Bool) (capacity : ℕ) (s s′ : Sta
       ClearsOut before capacity s keep work (Ok n) s′ keep′ × Stands before travel capacity Ready′ s′
   clearing c e f =
       let step : ClearsOut before capacity s keep work (Ok n) s′ keep′ =
-            then-comes (check-lists (s .vertices) 0 keep (check-work capacity work None)) (Ok n) ((s′ ≡ s) × (keep′ ≡ keep)) (ClearedOut before capacity s keep (Ok n) s′ keep′) passed
-            (c .0, c .1, c .2, c .3, ap Ok e, f) in
+      then-comes (check-lists (s .vertices) 0 keep (check-work capacity work None)) (Ok n) ((s′ ≡ s) × (keep′ ≡ keep)) (ClearedOut before capacity s keep (Ok n) s′ keep′) passed
+      (c .0, c .1, c .2, c .3, ap Ok e, f) in
       (step, record { ready = ready (st .ready); run = clears-out s keep work (Ok n) keep′ (st .run) step })
 
 module _ {S : Type 0} (before : S → S → Bool) (capacity : ℕ) (s : State S) (keep : List ℕ) (work : List Place) (e : Fault) where

@@ -74,18 +74,18 @@ module _ {S : Type 0} (before : S → S → Bool) (order : Order before) (capaci
     joined-stands : (rule first second : ℕ) (work : List Place) (r : Result ℕ Fault) → Joins before capacity s rule first second work r s′ → Standing before capacity s′
     joined-stands rule first second work r =
         checked before order capacity _ r s s′ _ st (λ e l.
-            let one = passes (ltb (length (s .vertices) + 1) first) _ _ e in
-            let two = passes (ltb (length (s .vertices) + 1) second) _ _ (one .1) in
-            let gf = good-list (s .vertices) first (one .0) in
-            let gs = good-list (s .vertices) second (two .0) in
-            let t = codes (s .vertices) first in
-            let u = codes (s .vertices) second in
-            let pt = list-proper before order capacity s s′ st first gf in
-            let pu = list-proper before order capacity s s′ st second gs in
-            joined (join before (takes rule) t u) r
-            (join-proper before order capacity (takes rule) refl t u pt pu)
-            (join-short before order capacity (takes rule) refl t u pt pu (st .short first gf) (st .short second gs))
-            l)
+        let one = passes (ltb (length (s .vertices) + 1) first) _ _ e in
+        let two = passes (ltb (length (s .vertices) + 1) second) _ _ (one .1) in
+        let gf = good-list (s .vertices) first (one .0) in
+        let gs = good-list (s .vertices) second (two .0) in
+        let t = codes (s .vertices) first in
+        let u = codes (s .vertices) second in
+        let pt = list-proper before order capacity s s′ st first gf in
+        let pu = list-proper before order capacity s s′ st second gs in
+        joined (join before (takes rule) t u) r
+        (join-proper before order capacity (takes rule) refl t u pt pu)
+        (join-short before order capacity (takes rule) refl t u pt pu (st .short first gf) (st .short second gs))
+        l)
 
     cleared-stands : (keep : List ℕ) (work : List Place) (r : Result ℕ Fault) (keep′ : List ℕ) → ClearsOut before capacity s keep work r s′ keep′ → Standing before capacity s′
     cleared-stands keep work r keep′ = by (check-lists (s .vertices) 0 keep (check-work capacity work None))

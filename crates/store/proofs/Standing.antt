@@ -145,11 +145,11 @@ module _ {S : Type 0} (before : S → S → Bool) (order : Order before) (capaci
         Standing before capacity s′
     changed f neither list code work r =
         checked (change-checks before capacity s list code work) r s s′ _ st (λ e l.
-            let g = change-good s list code work e in
-            laid s s′ (join before f (codes (s .vertices) list) (single code)) r st
-            (join-proper f neither (codes (s .vertices) list) (single code) (list-proper list (g .0)) (single-proper before code))
-            (join-short f neither (codes (s .vertices) list) (single code) (list-proper list (g .0)) (single-proper before code) (st .short list (g .0)) (single-short code (g .1)))
-            l)
+        let g = change-good s list code work e in
+        laid s s′ (join before f (codes (s .vertices) list) (single code)) r st
+        (join-proper f neither (codes (s .vertices) list) (single code) (list-proper list (g .0)) (single-proper before code))
+        (join-short f neither (codes (s .vertices) list) (single code) (list-proper list (g .0)) (single-proper before code) (st .short list (g .0)) (single-short code (g .1)))
+        l)
 
     pub added-stands : (list : ℕ) (code : List S) (work : List Place) (r : Result ℕ Fault) → Adds before capacity s list code work r s′ → Standing before capacity s′
     added-stands = changed (takes 7) refl

@@ -68,7 +68,7 @@ module _ {S : Type 0} (before : S → S → Bool) (capacity : ℕ) where
   abbrev pub Unders : State S → ℕ → List S → Result ℕ Fault → Type 0
   Unders s list code r =
       r ≡ answered (check-lists (s .vertices) 0 (list ∷ []) (check-code code None))
-        (number before (lists (s .vertices)) (under before (codes (s .vertices) list) code))
+      (number before (lists (s .vertices)) (under before (codes (s .vertices) list) code))
 
   -- whether the code is in the list
   abbrev pub Holds : State S → ℕ → List S → Result Bool Fault → Type 0

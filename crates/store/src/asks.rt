@@ -10,9 +10,9 @@ ghost use Rattle.store.specs.Calls.{Looks, Holds, Unders, CountsCodes, CountsV
 ghost use Rattle.store.specs.Run.{Asks};
 use crate::fault::Fault;
 use crate::fault::FaultFromPick;
+use crate::store::Store;
 use crate::store::check_code;
 use crate::store::check_output;
-use crate::store::Store;
 use memory::recall::RecallTable;
 use memory::shelf::Shelf;
 use memory::work::Place;

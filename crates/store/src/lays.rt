@@ -8,8 +8,8 @@ ghost use Rattle.store.specs.State.{state};
 ghost use Rattle.store.specs.Calls.{Adds, Removes, Joins};
 ghost use Rattle.store.specs.Run.{Goes};
 use crate::fault::Fault;
-use crate::store::check_code;
 use crate::store::Store;
+use crate::store::check_code;
 use joining::rule::Rule;
 use memory::recall::RecallTable;
 use memory::shelf::Full;
@@ -55,7 +55,13 @@ impl<S: Symbol, B: Shelf<S>, R: RecallTable> Store<S, B, R> {
     // The join of two lists by a rule, laid down; its number. The rule is a sum: 1 takes codes only in the first list, 2
     // only in the second, 4 those in both. Refused 2, 5, 3, 9. Time: the different pairs of vertices, with a table that
     // is large enough.
-    pub fn join(&mut self, rule: u32, first: u32, second: u32, work: &mut [Place]) -> Result<u32, Fault>
+    pub fn join(
+        &mut self,
+        rule: u32,
+        first: u32,
+        second: u32,
+        work: &mut [Place],
+    ) -> Result<u32, Fault>
         ensures answer { λ r. ⌜ Goes (S·Symbol .before) (B·Shelf .capacity (now (self .entry) .shelf)) (B·Shelf .ready (now (self .entry) .shelf)) (state (B·Shelf .vertices (now (self .entry) .shelf)) (R·RecallTable .table (now (self .entry) .recall))) (B·Shelf .ready (now (self .exit) .shelf)) (state (B·Shelf .vertices (now (self .exit) .shelf)) (R·RecallTable .table (now (self .exit) .recall))) (Joins (S·Symbol .before) (B·Shelf .capacity (now (self .entry) .shelf)) (state (B·Shelf .vertices (now (self .entry) .shelf)) (R·RecallTable .table (now (self .entry) .recall))) rule first second (now (work .entry)) r (state (B·Shelf .vertices (now (self .exit) .shelf)) (R·RecallTable .table (now (self .exit) .recall)))) ⌝ }
         ensures size { λ _. ⌜ B·Shelf .capacity (now (self .exit) .shelf) ≡ B·Shelf .capacity (now (self .entry) .shelf) ⌝ }
     {

@@ -40,7 +40,11 @@ impl<S: Symbol, B: Shelf<S>, R: RecallTable> Store<S, B, R> {
         let mut recall = recall;
         shelf.cut(0);
         recall.forget();
-        Store { shelf, recall, kind: PhantomData }
+        Store {
+            shelf,
+            recall,
+            kind: PhantomData,
+        }
     }
 
     // How many vertices there may be.

@@ -28,10 +28,12 @@ returns-in-Break-check-keep g c =
     let e = refused-by _ _ (c .in-Break-check-keep .ensures tt) in
     rw (p .1, p .2)
     record {
-      answer = λ travel st.
-          (clear-refused (g .S·Symbol .before) (g .B·Shelf .capacity (c .args .self .now .shelf))
-          (state (g .B·Shelf .vertices (c .args .self .now .shelf)) (g .R·RecallTable .table (c .args .self .now .recall)))
-          (c .args .keep .now) (c .args .work .now) _ (one-refuses (g .B·Shelf .vertices (c .args .self .now .shelf)) 0 (c .args .keep .now) _ _ e), st);
+      answer = λ travel st. (
+        clear-refused (g .S·Symbol .before) (g .B·Shelf .capacity (c .args .self .now .shelf))
+            (state (g .B·Shelf .vertices (c .args .self .now .shelf)) (g .R·RecallTable .table (c .args .self .now .recall)))
+            (c .args .keep .now) (c .args .work .now) _ (one-refuses (g .B·Shelf .vertices (c .args .self .now .shelf)) 0 (c .args .keep .now) _ _ e),
+        st,
+      );
       size = refl;
     }
 
@@ -42,9 +44,11 @@ returns-in-Break-check-work g c =
     let e = refused-by _ _ (c .in-Break-check-work .ensures tt) in
     rw (p .1, p .2)
     record {
-      answer = λ travel st.
-          (clear-refused (g .S·Symbol .before) (g .B·Shelf .capacity (c .args .self .now .shelf))
-          (state (g .B·Shelf .vertices (c .args .self .now .shelf)) (g .R·RecallTable .table (c .args .self .now .recall)))
-          (c .args .keep .now) (c .args .work .now) _ (keep .0 _ ∙ e), st);
+      answer = λ travel st. (
+        clear-refused (g .S·Symbol .before) (g .B·Shelf .capacity (c .args .self .now .shelf))
+            (state (g .B·Shelf .vertices (c .args .self .now .shelf)) (g .R·RecallTable .table (c .args .self .now .recall)))
+            (c .args .keep .now) (c .args .work .now) _ (keep .0 _ ∙ e),
+        st,
+      );
       size = refl;
     }

@@ -42,6 +42,6 @@ returns-in-Err g c =
           (state (g .B·Shelf .vertices (c .join .last .shelf)) (g .R·RecallTable .table (c .join .last .recall)))
           (c .args .rule) (c .args .first) (c .args .second) (c .args .work .now) (Err ShelfFull)
           (first .1 _ ∙ second .1 _ ∙ rule-passes (c .args .rule) _ _ (rule .0) ∙ work .1 None) travel _ _ st (c .join .ensures .ready)
-          (let down = joins-at (g .S·Symbol .before) (g .B·Shelf .capacity (c .args .self .now .shelf)) (c .args .rule) (number-of (c .in-Some .rule)) (c .args .first) (c .args .second) (g .B·Shelf .vertices (c .args .self .now .shelf)) (g .R·RecallTable .table (c .args .self .now .recall)) (Err (record { })) (g .B·Shelf .vertices (c .join .last .shelf)) (g .R·RecallTable .table (c .join .last .recall)) (rule .1) (c .in-Err .ensures tt .answer (st .ready)) (stands .sound) (good-list _ _ (first .0)) (good-list _ _ (second .0)) (stands .right) in (refl, down .0, c .in-Err .ensures tt .refused refl));
+          (let down = joins-at (g .S·Symbol .before) (g .B·Shelf .capacity (c .args .self .now .shelf)) (c .args .rule) (number-of (c .in-Some .rule)) (c .args .first) (c .args .second) (g .B·Shelf .vertices (c .args .self .now .shelf)) (g .R·RecallTable .table (c .args .self .now .recall)) (Err (record {})) (g .B·Shelf .vertices (c .join .last .shelf)) (g .R·RecallTable .table (c .join .last .recall)) (rule .1) (c .in-Err .ensures tt .answer (st .ready)) (stands .sound) (good-list _ _ (first .0)) (good-list _ _ (second .0)) (stands .right) in (refl, down .0, c .in-Err .ensures tt .refused refl));
       size = c .join .ensures .size;
     }
