@@ -18,7 +18,7 @@ use memory::reading::same_vertex;
 use symbols::Symbol;
 
 // How many vertices there may be over so many records and heads.
-pub fn capacity(records: usize, heads: usize) -> u32
+pub(crate) fn capacity(records: usize, heads: usize) -> u32
     ensures { λ r. ⌜ r ≡ cond (eqb heads 0) 0 (min records 1000000) ⌝ }
 {
     if heads == 0 {
@@ -28,14 +28,14 @@ pub fn capacity(records: usize, heads: usize) -> u32
     }
 }
 
-pub fn entry_at<S: Symbol>(records: &[Entry<S>], i: u32) -> Entry<S>
+pub(crate) fn entry_at<S: Symbol>(records: &[Entry<S>], i: u32) -> Entry<S>
     requires { ⌜ i < length (now records) ⌝ }
     ensures { λ r. ⌜ r ≡ getD (now (records .entry)) i r ⌝ }
 {
     records[i as usize]
 }
 
-pub fn look<S: Symbol>(records: &[Entry<S>], used: u32, n: u32) -> Option<(S, u32, u32)>
+pub(crate) fn look<S: Symbol>(records: &[Entry<S>], used: u32, n: u32) -> Option<(S, u32, u32)>
     requires { ⌜ used ≤ length (now records) ⌝ ∗ ⌜ used ≤ 1000000 ⌝ }
     ensures { λ r. ⌜ r ≡ mapped parts (look (take used (vertices-in (now (records .entry)))) n) ⌝ }
 {
@@ -68,7 +68,7 @@ fn passed<S: Symbol>(
 
 // The lowest number of a vertex, by a walk down its bucket's chain. Equal vertices may stand in it more than once, so
 // the walk goes to the end.
-pub fn find<S: Symbol>(
+pub(crate) fn find<S: Symbol>(
     records: &[Entry<S>],
     heads: &[u32],
     used: u32,
@@ -89,7 +89,7 @@ pub fn find<S: Symbol>(
 }
 
 // One vertex more, at index `i`, at the top of its bucket's chain.
-pub fn link<S: Symbol>(
+pub(crate) fn link<S: Symbol>(
     records: &mut [Entry<S>],
     heads: &mut [u32],
     i: u32,
@@ -106,7 +106,7 @@ pub fn link<S: Symbol>(
 }
 
 // Sets every head to nothing.
-pub fn clear(heads: &mut [u32])
+pub(crate) fn clear(heads: &mut [u32])
     ensures { λ _. ⌜ ((b : ℕ) → getD (now (heads .exit)) b 0 ≡ 0) ⌝ }
 {
     for head in heads.iter_mut() {
@@ -124,7 +124,7 @@ fn drop_top<S: Symbol>(heads: &mut [u32], entry: Entry<S>)
 }
 
 // Takes the vertices from index `n` on out of their chains, the last first: each is then at the top of its chain.
-pub fn unlink<S: Symbol>(records: &[Entry<S>], heads: &mut [u32], used: u32, n: u32)
+pub(crate) fn unlink<S: Symbol>(records: &[Entry<S>], heads: &mut [u32], used: u32, n: u32)
     requires { ⌜ used ≤ length (now records) ⌝ ∗ ⌜ used ≤ 1000000 ⌝ ∗ ⌜ (0 < used → 0 < length (now heads)) ⌝ }
     ensures { λ _. ⌜ (Chained (S·Symbol .scatter) (now (records .entry)) (now (heads .entry)) used → Chained (S·Symbol .scatter) (now (records .entry)) (now (heads .exit)) (min used n)) ⌝ }
 {
@@ -136,7 +136,7 @@ pub fn unlink<S: Symbol>(records: &[Entry<S>], heads: &mut [u32], used: u32, n: 
 }
 
 // Leaves the first `n` vertices in the chains. To leave none clears every head, whatever lay there: so a shelf begins.
-pub fn cut<S: Symbol>(records: &[Entry<S>], heads: &mut [u32], used: u32, n: u32)
+pub(crate) fn cut<S: Symbol>(records: &[Entry<S>], heads: &mut [u32], used: u32, n: u32)
     requires { ⌜ used ≤ length (now records) ⌝ ∗ ⌜ used ≤ 1000000 ⌝ ∗ ⌜ (0 < used → 0 < length (now heads)) ⌝ }
     ensures ready { λ _. ⌜ (Chained (S·Symbol .scatter) (now (records .entry)) (now (heads .entry)) used → Chained (S·Symbol .scatter) (now (records .entry)) (now (heads .exit)) (min used n)) ⌝ }
     ensures anew { λ _. ⌜ (n ≡ 0 → Chained (S·Symbol .scatter) (now (records .entry)) (now (heads .exit)) 0) ⌝ }

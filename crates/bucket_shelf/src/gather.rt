@@ -23,7 +23,7 @@ use memory::work::Place;
 use symbols::Symbol;
 
 // Whether each marked vertex has links to terminals and to marked vertices below it alone.
-pub fn all_stay<S: Symbol>(records: &[Entry<S>], used: u32, marks: &[Place]) -> bool
+pub(crate) fn all_stay<S: Symbol>(records: &[Entry<S>], used: u32, marks: &[Place]) -> bool
     requires { ⌜ used ≤ length (now records) ⌝ ∗ ⌜ used ≤ 1000000 ⌝ }
     ensures { λ r. ⌜ (r ≡ true) ↔ AllStay (marks-in (now (marks .entry))) (take used (vertices-in (now (records .entry)))) ⌝ }
 {
@@ -54,7 +54,7 @@ fn keep_vertex<S: Symbol>(
 }
 
 // Moves the marked vertices to the front and says how many there are.
-pub fn keep<S: Symbol>(
+pub(crate) fn keep<S: Symbol>(
     records: &mut [Entry<S>],
     heads: &mut [u32],
     used: u32,
@@ -78,7 +78,7 @@ pub fn keep<S: Symbol>(
 }
 
 // Keeps the marked vertices and says how many there are; nothing, and nothing changed, where the marks do not fit.
-pub fn gather<S: Symbol>(
+pub(crate) fn gather<S: Symbol>(
     records: &mut [Entry<S>],
     heads: &mut [u32],
     used: u32,

@@ -23,7 +23,7 @@ pub struct Heads<'a> {
     pub at: &'a mut [u32],
 }
 
-pub fn find<S: Symbol>(
+pub(crate) fn find<S: Symbol>(
     records: &Records<S>,
     heads: &Heads,
     used: u32,
@@ -36,7 +36,7 @@ pub fn find<S: Symbol>(
     chain::find(records.at, heads.at, used, at, vertex)
 }
 
-pub fn link<S: Symbol>(
+pub(crate) fn link<S: Symbol>(
     records: &mut Records<S>,
     heads: &mut Heads,
     i: u32,
@@ -52,7 +52,7 @@ pub fn link<S: Symbol>(
     chain::link(records.at, heads.at, i, at, vertex);
 }
 
-pub fn cut<S: Symbol>(records: &Records<S>, heads: &mut Heads, used: u32, n: u32)
+pub(crate) fn cut<S: Symbol>(records: &Records<S>, heads: &mut Heads, used: u32, n: u32)
     requires { ⌜ used ≤ length (now (now records .at)) ⌝ ∗ ⌜ used ≤ 1000000 ⌝ ∗ ⌜ (0 < used → 0 < length (now (now heads .at))) ⌝ }
     ensures wide { λ _. ⌜ length (now (now (heads .exit) .at)) ≡ length (now (now (heads .entry) .at)) ⌝ }
     ensures ready { λ _. ⌜ (Chained (S·Symbol .scatter) (now (now (records .entry) .at)) (now (now (heads .entry) .at)) used → Chained (S·Symbol .scatter) (now (now (records .entry) .at)) (now (now (heads .exit) .at)) (min used n)) ⌝ }
@@ -61,7 +61,7 @@ pub fn cut<S: Symbol>(records: &Records<S>, heads: &mut Heads, used: u32, n: u32
     chain::cut(records.at, heads.at, used, n);
 }
 
-pub fn gather<S: Symbol>(
+pub(crate) fn gather<S: Symbol>(
     records: &mut Records<S>,
     heads: &mut Heads,
     used: u32,

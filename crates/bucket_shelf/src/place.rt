@@ -26,7 +26,7 @@ fn mix(scatter: u32, zero: u32, one: u32) -> u64
 }
 
 // The bucket of a vertex among so many.
-pub fn bucket<S: Symbol>(vertex: Vertex<S>, heads: usize) -> usize
+pub(crate) fn bucket<S: Symbol>(vertex: Vertex<S>, heads: usize) -> usize
     requires { ⌜ 0 < heads ⌝ }
     ensures value { λ r. ⌜ r ≡ bucket (S·Symbol .scatter) heads vertex ⌝ }
     ensures within { λ r. ⌜ r < heads ⌝ }

@@ -19,7 +19,7 @@ fn count_digits(n: u64) -> usize
 }
 
 // Puts a number at the start of `out`, from its last digit to its first, and answers how many digits it has.
-pub fn write_decimal(n: u64, out: &mut [u8]) -> usize
+pub(crate) fn write_decimal(n: u64, out: &mut [u8]) -> usize
     requires { ⌜ 20 ≤ length (now out) ⌝ }
     ensures most { λ r. ⌜ r ≤ 20 ⌝ }
     ensures value { λ r. ⌜ r ≡ length (decimal n) ⌝ }

@@ -59,14 +59,14 @@ fn to_place(frame: Frame) -> Place
     }
 }
 
-pub fn read_frame(work: &[Place], i: usize) -> Frame
+pub(crate) fn read_frame(work: &[Place], i: usize) -> Frame
     requires { ⌜ i < length (now work) ⌝ }
     ensures { λ r. ⌜ r ≡ frame-at (now (work .entry)) i ⌝ }
 {
     from_place(work[i])
 }
 
-pub fn write_frame(work: &mut [Place], i: usize, frame: Frame)
+pub(crate) fn write_frame(work: &mut [Place], i: usize, frame: Frame)
     requires { ⌜ i < length (now work) ⌝ }
     ensures { λ _. ⌜ now (work .exit) ≡ set (now (work .entry)) i (place-of frame) ⌝ }
 {

@@ -147,7 +147,7 @@ fn answer<S: Symbol, B: Shelf<S>, R: RecallTable>(
 }
 
 // The walk's number, once no frame waits for it.
-pub fn ended(state: State) -> Option<u32>
+pub(crate) fn ended(state: State) -> Option<u32>
     ensures { λ r. ⌜ Ended state r ⌝ }
 {
     match state.turn {
@@ -162,7 +162,7 @@ pub fn ended(state: State) -> Option<u32>
 }
 
 // One turn.
-pub fn advance<S: Symbol, B: Shelf<S>, R: RecallTable>(
+pub(crate) fn advance<S: Symbol, B: Shelf<S>, R: RecallTable>(
     shelf: &mut B,
     recall: &mut R,
     rule: Rule,

@@ -10,14 +10,14 @@ use crate::Slot;
 use memory::recall::Question;
 
 // Spreads the bits of a number over all its bits.
-pub fn stir(x: u64) -> u64
+pub(crate) fn stir(x: u64) -> u64
     ensures { λ r. ⌜ r ≡ stir x ⌝ }
 {
     (x ^ (x >> 32)).wrapping_mul(0x9E37_79B9_7F4A_7C15)
 }
 
 // A number from the whole question: questions that differ little, as those of one join, differ in it a lot.
-pub fn scatter(question: Question) -> u32
+pub(crate) fn scatter(question: Question) -> u32
     ensures { λ r. ⌜ r ≡ scatter question ⌝ }
 {
     let links = question.first as u64 * 0x1_0000_0000 + question.second as u64;
@@ -26,7 +26,7 @@ pub fn scatter(question: Question) -> u32
 }
 
 // The slot of a question, where there are so many.
-pub fn slot_of(count: u32, question: Question) -> u32
+pub(crate) fn slot_of(count: u32, question: Question) -> u32
     ensures value { λ r. ⌜ r ≡ slot-of count question ⌝ }
     ensures within { λ r. ⌜ (0 < count → r < count) ⌝ }
 {
@@ -34,20 +34,20 @@ pub fn slot_of(count: u32, question: Question) -> u32
 }
 
 // Slots have numbers of 32 bits.
-pub fn count(slots: usize) -> u32
+pub(crate) fn count(slots: usize) -> u32
     ensures { λ r. ⌜ r ≡ min slots 4294967295 ⌝ }
 {
     slots.min(4_294_967_295) as u32
 }
 
-pub fn same_question(a: Question, b: Question) -> bool
+pub(crate) fn same_question(a: Question, b: Question) -> bool
     ensures { λ r. ⌜ (r ≡ true) ↔ (a ≡ b) ⌝ }
 {
     a.first == b.first && a.second == b.second && a.rule == b.rule
 }
 
 // Whether slot i was filled in this turn, one of the turns so far.
-pub fn was_filled(slots: &[Slot], turns: u32, turn: u32, i: u32) -> bool
+pub(crate) fn was_filled(slots: &[Slot], turns: u32, turn: u32, i: u32) -> bool
     ensures { λ r. ⌜ r ≡ filled-in (now (slots .entry)) turns turn i ⌝ }
 {
     if turn >= turns {
@@ -59,7 +59,7 @@ pub fn was_filled(slots: &[Slot], turns: u32, turn: u32, i: u32) -> bool
     }
 }
 
-pub fn recall(slots: &[Slot], turns: u32, question: Question) -> Option<u32>
+pub(crate) fn recall(slots: &[Slot], turns: u32, question: Question) -> Option<u32>
     ensures { λ r. ⌜ r ≡ held (now (slots .entry)) turns question ⌝ }
 {
     let count = count(slots.len());
@@ -79,7 +79,7 @@ pub fn recall(slots: &[Slot], turns: u32, question: Question) -> Option<u32>
 
 // The turn to fill slot i in: its own if it is full, and else a new one. Where no turn is left, which does not happen
 // to a table that began with none, it is the first again, and the slot of that turn is empty from then on.
-pub fn turn_for(slots: &[Slot], turns: u32, i: u32) -> u32
+pub(crate) fn turn_for(slots: &[Slot], turns: u32, i: u32) -> u32
     requires { ⌜ i < length (now slots) ⌝ }
     ensures early { λ r. ⌜ r ≤ turns ⌝ }
     ensures within { λ r. ⌜ r < slot-count (now (slots .entry)) ⌝ }
@@ -96,7 +96,7 @@ pub fn turn_for(slots: &[Slot], turns: u32, i: u32) -> u32
 }
 
 // Fills the question's slot, and answers how many turns there are then.
-pub fn tell(slots: &mut [Slot], turns: u32, question: Question, answer: u32) -> u32
+pub(crate) fn tell(slots: &mut [Slot], turns: u32, question: Question, answer: u32) -> u32
     ensures told { λ r. ⌜ Told (held (now (slots .entry)) turns) question answer (held (now (slots .exit)) r) ⌝ }
     ensures recalls { λ r. ⌜ Recalls (now (slots .entry)) question answer (held (now (slots .exit)) r) ⌝ }
     ensures spares { λ r. ⌜ Spares (now (slots .entry)) turns question (held (now (slots .exit)) r) ⌝ }

@@ -24,13 +24,13 @@ use memory::work::Place;
 use symbols::Symbol;
 
 // How many vertices so many records hold.
-pub fn capacity(records: usize) -> u32
+pub(crate) fn capacity(records: usize) -> u32
     ensures { λ r. ⌜ r ≡ min records 1000000 ⌝ }
 {
     records.min(1_000_000) as u32
 }
 
-pub fn look<S: Symbol>(run: &[Vertex<S>], used: u32, n: u32) -> Option<(S, u32, u32)>
+pub(crate) fn look<S: Symbol>(run: &[Vertex<S>], used: u32, n: u32) -> Option<(S, u32, u32)>
     requires { ⌜ used ≤ length (now run) ⌝ }
     ensures { λ r. ⌜ r ≡ mapped parts (look (take used (now (run .entry))) n) ⌝ }
 {
@@ -44,7 +44,7 @@ pub fn look<S: Symbol>(run: &[Vertex<S>], used: u32, n: u32) -> Option<(S, u32, 
     Some((v.label, v.zero, v.one))
 }
 
-pub fn find<S: Symbol>(run: &[Vertex<S>], used: u32, wanted: Vertex<S>) -> Option<u32>
+pub(crate) fn find<S: Symbol>(run: &[Vertex<S>], used: u32, wanted: Vertex<S>) -> Option<u32>
     requires { ⌜ used ≤ length (now run) ⌝ ∗ ⌜ used ≤ 1000000 ⌝ }
     ensures { λ r. ⌜ First (take used (now (run .entry))) wanted r ⌝ }
 {
@@ -57,7 +57,7 @@ pub fn find<S: Symbol>(run: &[Vertex<S>], used: u32, wanted: Vertex<S>) -> Optio
 }
 
 // Writes the vertex past the used records, and says how many are used then; refused where there is no place.
-pub fn append<S: Symbol>(run: &mut [Vertex<S>], used: u32, vertex: Vertex<S>) -> Result<u32, Full>
+pub(crate) fn append<S: Symbol>(run: &mut [Vertex<S>], used: u32, vertex: Vertex<S>) -> Result<u32, Full>
     ensures { λ r. ⌜ RowAppends used (now (run .entry)) vertex r (now (run .exit)) ⌝ }
 {
     let capacity = capacity(run.len());
@@ -70,14 +70,14 @@ pub fn append<S: Symbol>(run: &mut [Vertex<S>], used: u32, vertex: Vertex<S>) ->
 }
 
 // How many records are used after a cut: of whatever run, its first n vertices.
-pub fn cut<S: Symbol>(used: u32, n: u32) -> u32
+pub(crate) fn cut<S: Symbol>(used: u32, n: u32) -> u32
     ensures { λ r. ⌜ ((run : List (Vertex S)) → row-vertices r run ≡ take n (row-vertices used run)) ⌝ }
 {
     used.min(n)
 }
 
 // Whether each marked vertex has links to terminals and to marked vertices below it alone.
-pub fn all_stay<S: Symbol>(run: &[Vertex<S>], used: u32, marks: &[Place]) -> bool
+pub(crate) fn all_stay<S: Symbol>(run: &[Vertex<S>], used: u32, marks: &[Place]) -> bool
     requires { ⌜ used ≤ length (now run) ⌝ ∗ ⌜ used ≤ 1000000 ⌝ }
     ensures { λ r. ⌜ (r ≡ true) ↔ AllStay (marks-in (now (marks .entry))) (take used (now (run .entry))) ⌝ }
 {
@@ -90,7 +90,7 @@ pub fn all_stay<S: Symbol>(run: &[Vertex<S>], used: u32, marks: &[Place]) -> boo
 }
 
 // Moves the marked vertices to the front, their links renumbered from the places, and says how many there are.
-pub fn keep<S: Symbol>(run: &mut [Vertex<S>], used: u32, marks: &[Place]) -> u32
+pub(crate) fn keep<S: Symbol>(run: &mut [Vertex<S>], used: u32, marks: &[Place]) -> u32
     requires { ⌜ used ≤ length (now run) ⌝ ∗ ⌜ used ≤ 1000000 ⌝ ∗ ⌜ length (now marks) ≡ used ⌝ }
     ensures few { λ r. ⌜ r ≤ used ⌝ }
     ensures vertices { λ r. ⌜ take r (now (run .exit)) ≡ map (noted-vertex (now (marks .entry))) (keep (marks-in (now (marks .entry))) (take used (now (run .entry)))) ⌝ }
@@ -107,7 +107,7 @@ pub fn keep<S: Symbol>(run: &mut [Vertex<S>], used: u32, marks: &[Place]) -> u32
 }
 
 // Keeps the marked vertices and says how many there are; nothing, and no vertex changed, where the marks do not fit.
-pub fn gather<S: Symbol>(run: &mut [Vertex<S>], used: u32, marks: &mut [Place]) -> Option<u32>
+pub(crate) fn gather<S: Symbol>(run: &mut [Vertex<S>], used: u32, marks: &mut [Place]) -> Option<u32>
     requires { ⌜ used ≤ length (now run) ⌝ ∗ ⌜ used ≤ 1000000 ⌝ }
     ensures { λ r. ⌜ Gathers used (now (run .entry)) (now (marks .entry)) r (now (run .exit)) (now (marks .exit)) ⌝ }
 {

@@ -8,7 +8,7 @@ ghost use Rattle.writing.specs.Met.{Sparse, Stands, Unmet, Met, MetOrNot, NewL
 use memory::work::Place;
 
 // Where a vertex stands in the order; nothing if it is not met.
-pub fn find_met(seen: &[Place], met: u32, n: u32) -> Option<u32>
+pub(crate) fn find_met(seen: &[Place], met: u32, n: u32) -> Option<u32>
     requires few { ⌜ met ≤ length (now seen) ⌝ }
     requires vertex { ⌜ (2 ≤ n) × (n ≤ length (now seen) + 1) ⌝ }
     requires sparse { ⌜ Sparse (now seen) met ⌝ }
@@ -27,7 +27,7 @@ pub fn find_met(seen: &[Place], met: u32, n: u32) -> Option<u32>
 }
 
 // Whether a link is a vertex that is not met yet.
-pub fn is_unmet(seen: &[Place], met: u32, link: u32) -> bool
+pub(crate) fn is_unmet(seen: &[Place], met: u32, link: u32) -> bool
     requires few { ⌜ met ≤ length (now seen) ⌝ }
     requires good { ⌜ link ≤ length (now seen) + 1 ⌝ }
     requires sparse { ⌜ Sparse (now seen) met ⌝ }
@@ -43,7 +43,7 @@ pub fn is_unmet(seen: &[Place], met: u32, link: u32) -> bool
 }
 
 // The vertex becomes the next in the order.
-pub fn meet(seen: &mut [Place], met: u32, n: u32)
+pub(crate) fn meet(seen: &mut [Place], met: u32, n: u32)
     requires few { ⌜ met < length (now seen) ⌝ }
     requires vertex { ⌜ (2 ≤ n) × (n ≤ length (now seen) + 1) ⌝ }
     ensures { λ _. ⌜ now (seen .exit) ≡ with-met (now (seen .entry)) met n ⌝ }
@@ -55,7 +55,7 @@ pub fn meet(seen: &mut [Place], met: u32, n: u32)
 }
 
 // A link's number in the dispatch: terminals stay, and the vertices that are met are numbered from 2 in their order.
-pub fn new_link(seen: &[Place], met: u32, link: u32) -> u32
+pub(crate) fn new_link(seen: &[Place], met: u32, link: u32) -> u32
     requires few { ⌜ met ≤ length (now seen) ⌝ }
     requires short { ⌜ length (now seen) ≤ 1000000 ⌝ }
     requires good { ⌜ link ≤ length (now seen) + 1 ⌝ }

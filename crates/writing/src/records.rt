@@ -62,7 +62,7 @@ fn write_kth<S: WireSymbol, B: Shelf<S>>(
 }
 
 // Writes the records behind the head.
-pub fn write_records<S: WireSymbol, B: Shelf<S>>(
+pub(crate) fn write_records<S: WireSymbol, B: Shelf<S>>(
     shelf: &B,
     seen: &[Place],
     met: u32,

@@ -113,7 +113,7 @@ fn start(list: u32, stack: &mut [Place]) -> Course
 }
 
 // Meets the vertices that are reached from the list, and answers how many they are.
-pub fn walk<S: Symbol, B: Shelf<S>>(
+pub(crate) fn walk<S: Symbol, B: Shelf<S>>(
     shelf: &B,
     list: u32,
     seen: &mut [Place],
