@@ -57,7 +57,11 @@ pub(crate) fn find<S: Symbol>(run: &[Vertex<S>], used: u32, wanted: Vertex<S>) -
 }
 
 // Writes the vertex past the used records, and says how many are used then; refused where there is no place.
-pub(crate) fn append<S: Symbol>(run: &mut [Vertex<S>], used: u32, vertex: Vertex<S>) -> Result<u32, Full>
+pub(crate) fn append<S: Symbol>(
+    run: &mut [Vertex<S>],
+    used: u32,
+    vertex: Vertex<S>,
+) -> Result<u32, Full>
     ensures { λ r. ⌜ RowAppends used (now (run .entry)) vertex r (now (run .exit)) ⌝ }
 {
     let capacity = capacity(run.len());
@@ -107,7 +111,11 @@ pub(crate) fn keep<S: Symbol>(run: &mut [Vertex<S>], used: u32, marks: &[Place])
 }
 
 // Keeps the marked vertices and says how many there are; nothing, and no vertex changed, where the marks do not fit.
-pub(crate) fn gather<S: Symbol>(run: &mut [Vertex<S>], used: u32, marks: &mut [Place]) -> Option<u32>
+pub(crate) fn gather<S: Symbol>(
+    run: &mut [Vertex<S>],
+    used: u32,
+    marks: &mut [Place],
+) -> Option<u32>
     requires { ⌜ used ≤ length (now run) ⌝ ∗ ⌜ used ≤ 1000000 ⌝ }
     ensures { λ r. ⌜ Gathers used (now (run .entry)) (now (marks .entry)) r (now (run .exit)) (now (marks .exit)) ⌝ }
 {

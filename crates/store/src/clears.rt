@@ -4,7 +4,9 @@ ghost use lib.ListN.{length, drop};
 ghost use mathlib.Core.Bool.{Bool};
 ghost use mathlib.Core.Path.{_≡_};
 ghost use Rattle.std.specs.declared.option.Option.the-variants.{None};
-ghost use Rattle.store.specs.State.{state, check-lists, answered};
+ghost use Rattle.ledger.specs.Diagrams.{Sound};
+ghost use Rattle.clearing.specs.Cleared.{AllGood, Clears};
+ghost use Rattle.store.specs.State.{state, Forgotten, check-lists, answered};
 ghost use Rattle.store.specs.Calls.{ClearsOut};
 ghost use Rattle.store.specs.Run.{Goes};
 use crate::fault::Fault;
@@ -36,8 +38,19 @@ impl<S: Symbol, B: Shelf<S>, R: RecallTable> Store<S, B, R> {
     {
         self.check_keep(keep)?;
         self.check_work(work)?;
-        let used = clearing::clearing::clear_out(&mut self.shelf, keep, work);
+        Ok(self.clear(keep, work))
+    }
+
+    // Clears the shelf out and forgets the table.
+    fn clear(&mut self, keep: &mut [u32], work: &mut [Place]) -> u32
+        requires { ⌜ length (B·Shelf .vertices (now self .shelf)) ≤ length (now work) ⌝ }
+        ensures answer { λ _. ⌜ (Sound (S·Symbol .before) (B·Shelf .vertices (now (self .entry) .shelf)) → AllGood (B·Shelf .vertices (now (self .entry) .shelf)) (now (keep .entry)) → Clears (B·Shelf .vertices (now (self .entry) .shelf)) (now (keep .entry)) (B·Shelf .vertices (now (self .exit) .shelf)) (now (keep .exit))) ⌝ }
+        ensures value { λ r. ⌜ r ≡ length (B·Shelf .vertices (now (self .exit) .shelf)) ⌝ }
+        ensures forgotten { λ _. ⌜ Forgotten (R·RecallTable .table (now (self .exit) .recall)) ⌝ }
+        ensures ready { λ _. ⌜ (B·Shelf .ready (now (self .entry) .shelf) → B·Shelf .ready (now (self .exit) .shelf)) ⌝ }
+        ensures size { λ _. ⌜ B·Shelf .capacity (now (self .exit) .shelf) ≡ B·Shelf .capacity (now (self .entry) .shelf) ⌝ }
+    {
         self.recall.forget();
-        Ok(used)
+        clearing::clearing::clear_out(&mut self.shelf, keep, work)
     }
 }

@@ -8,7 +8,7 @@ ghost use mathlib.Core.Path.{_≡_};
 ghost use Rattle.std.specs.declared.option.Option.{Option};
 ghost use Rattle.std.specs.declared.option.Option.the-variants.{Some, None};
 ghost use Rattle.symbols.specs.Wire.{Travel};
-ghost use Rattle.store.specs.State.{state, check-lists, check-code, check-work, check-output, answered};
+ghost use Rattle.store.specs.State.{state, Forgotten, check-lists, check-code, check-work, check-output, answered};
 ghost use Rattle.store.specs.Run.{Stands, NumberIsList};
 use crate::fault::Fault;
 use memory::recall::RecallTable;
@@ -38,8 +38,7 @@ impl<S: Symbol, B: Shelf<S>, R: RecallTable> Store<S, B, R> {
     {
         let mut shelf = shelf;
         let mut recall = recall;
-        shelf.cut(0);
-        recall.forget();
+        empty(&mut shelf, &mut recall);
         Store {
             shelf,
             recall,
@@ -80,6 +79,17 @@ impl<S: Symbol, B: Shelf<S>, R: RecallTable> Store<S, B, R> {
         }
         Ok(())
     }
+}
+
+// Cuts a shelf to 0 and forgets a table.
+fn empty<S: Symbol, B: Shelf<S>, R: RecallTable>(shelf: &mut B, recall: &mut R)
+    ensures vertices { λ _. ⌜ B·Shelf .vertices (now (shelf .exit)) ≡ [] ⌝ }
+    ensures ready { λ _. ⌜ B·Shelf .ready (now (shelf .exit)) ⌝ }
+    ensures size { λ _. ⌜ B·Shelf .capacity (now (shelf .exit)) ≡ B·Shelf .capacity (now (shelf .entry)) ⌝ }
+    ensures forgotten { λ _. ⌜ Forgotten (R·RecallTable .table (now (recall .exit))) ⌝ }
+{
+    shelf.cut(0);
+    recall.forget();
 }
 
 // Refuses a code of more than 64 symbols.

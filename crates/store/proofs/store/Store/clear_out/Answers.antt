@@ -16,10 +16,10 @@ returns g c =
           let stands = run-stands (g .S·Symbol .before) (g .S·Symbol·met .ordered) _ travel (st .run) in
           clearing (g .S·Symbol .before) (g .B·Shelf .capacity (c .args .self .now .shelf))
           (state (g .B·Shelf .vertices (c .args .self .now .shelf)) (g .R·RecallTable .table (c .args .self .now .recall)))
-          (state (g .B·Shelf .vertices (c .clear-out-used .last .shelf)) (g .R·RecallTable .table (c .forget .last .self)))
-          (c .args .keep .now) (c .clear-out-used .last .keep) (c .args .work .now) (c .clear-out-used .result) (keep .0 _ ∙ work .1 None) travel _ _ st (c .clear-out-used .ensures .ready)
-          (c .clear-out-used .ensures .answer (stands .sound) (keep .1)) (c .clear-out-used .ensures .value) (c .forget .ensures);
-      size = c .clear-out-used .ensures .size;
+          (state (g .B·Shelf .vertices (c .clear .last .self .shelf)) (g .R·RecallTable .table (c .clear .last .self .recall)))
+          (c .args .keep .now) (c .clear .last .keep) (c .args .work .now) (c .clear .result) (keep .0 _ ∙ work .1 None) travel _ _ st (c .clear .ensures .ready)
+          (c .clear .ensures .answer (stands .sound) (keep .1)) (c .clear .ensures .value) (c .clear .ensures .forgotten);
+      size = c .clear .ensures .size;
     }
 
 pub returns-in-Break-check-keep : need.returns-in-Break-check-keep
