@@ -4,9 +4,15 @@ use std::io;
 
 mod answer;
 mod call;
+mod recalls;
 mod running;
+mod shelf_call;
+mod shelf_running;
+mod shelf_tables;
 mod tables;
 
 fn main(rt: LibcRuntime) -> io::Result<()> {
+    shelf_tables::run_all(&rt)?;
+    recalls::run_all(&rt)?;
     tables::run_all(&rt)
 }
