@@ -1,2 +1,3 @@
 pub mod Putting
 pub mod Labels
+pub mod Reading

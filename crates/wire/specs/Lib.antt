@@ -1,4 +1,5 @@
 pub mod Heads
 pub mod Refusals
 pub mod Records
+pub mod Back
 pub mod Written

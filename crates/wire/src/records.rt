@@ -4,6 +4,7 @@ ghost use lib.ListN.{length, drop};
 ghost use mathlib.Core.List.{_++_};
 ghost use mathlib.Core.Path.{_≡_};
 ghost use Rattle.ledger.specs.Dispatch.{be4};
+ghost use Rattle.wire.specs.Back.{RecordsBack};
 ghost use Rattle.wire.specs.Records.{travel, record-of, record-bytes, zero-after};
 use crate::faults::RecordFault;
 use crate::faults::RecordFromSymbol;
@@ -65,4 +66,11 @@ pub fn write_record<S: WireSymbol>(v: &Vertex<S>, out: &mut [u8])
 {
     v.label.write(out);
     write_links(v.zero, v.one, &mut out[S::width()..]);
+}
+
+// What is written of formed vertices reads back as those vertices.
+pub fn records_read_back<S: WireSymbol>() -> u8
+    ensures { λ _. ⌜ RecordsBack (S·Symbol .before) (travel (S·WireSymbol .kind) (S·WireSymbol .width) (S·WireSymbol .bytes) (S·WireSymbol .reads)) ⌝ }
+{
+    0
 }
