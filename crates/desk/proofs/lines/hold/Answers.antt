@@ -25,5 +25,5 @@ returns c =
       answer = (
         take-putMid held (held + n - held) old self (held + n) (omega arith) (omega arith) ∙ held-more old more self held n low is e,
         drop-putMid held (held + n - held) old self (held + n) (omega arith) (omega arith) (omega arith),
-      )
+      );
     }
