@@ -38,6 +38,7 @@ first-part n m xs e = ⊎-elim short long (cases-lt n (length xs))
   where
     short : n < length xs → take (m - 0) xs ≡ take n xs
     short h = let p : m - 0 ≡ n = omega arith in ap (λ k. take k xs) p
+
     long : length xs ≤ n → take (m - 0) xs ≡ take n xs
     long h =
         let p : m - 0 ≡ length xs = omega arith in

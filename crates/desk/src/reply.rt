@@ -85,7 +85,12 @@ fn answer_of<'a>(reply: Reply, text: &'a [u8]) -> Answer<'a>
 
 // Writes the text of the code of this length at the start of `code`, as a line, to the start of `out`; its text is made in
 // `text` first.
-fn write_picked<S: TextSymbol>(length: usize, code: &[S], text: &mut [u8], out: &mut [u8]) -> Result<usize, TooShort>
+fn write_picked<S: TextSymbol>(
+    length: usize,
+    code: &[S],
+    text: &mut [u8],
+    out: &mut [u8],
+) -> Result<usize, TooShort>
     ensures { λ r. ⌜ Put (ended (S·TextSymbol .text (take length (now (code .entry))))) (now (text .entry)) (now (out .entry)) r (now (out .exit)) ⌝ }
 {
     let length = length.min(code.len());
@@ -97,7 +102,12 @@ fn write_picked<S: TextSymbol>(length: usize, code: &[S], text: &mut [u8], out: 
 
 // Writes the answer line of a reply to the start of `out`, and answers its length. Where the reply is a code, it stands in
 // `code`, and its text is made in `text`.
-pub fn write_reply<S: TextSymbol>(reply: Reply, code: &[S], text: &mut [u8], out: &mut [u8]) -> Result<usize, TooShort>
+pub fn write_reply<S: TextSymbol>(
+    reply: Reply,
+    code: &[S],
+    text: &mut [u8],
+    out: &mut [u8],
+) -> Result<usize, TooShort>
     ensures { λ r. ⌜ Put (reply-text (S·TextSymbol .text (picked (now (code .entry)) reply)) reply) (now (text .entry)) (now (out .entry)) r (now (out .exit)) ⌝ }
 {
     match reply {

@@ -13,8 +13,8 @@ returns c =
     let old = c .args .line .now in
     let more = c .args .more .now in
     let held = c .args .held in
-    let n = c .min-n .result in
-    let is = c .min-n .ensures in
+    let n = c .count-fitting-n .result in
+    let is = c .count-fitting-n .ensures in
     let self = c .copy-from-slice .last .self in
     let low = c .pre in
     let zero : n - 0 ≡ n = omega arith in
@@ -25,5 +25,5 @@ returns c =
       answer = (
         take-putMid held (held + n - held) old self (held + n) (omega arith) (omega arith) ∙ held-more old more self held n low is e,
         drop-putMid held (held + n - held) old self (held + n) (omega arith) (omega arith) (omega arith),
-      )
+      );
     }

@@ -23,12 +23,12 @@ returns-in-Ok g c =
     let ends : (length code ≤ n) ⊎ (length old ≤ n) = ⊎-elim (λ p. inr (omega arith)) (λ p. inl (omega arith)) (cases-lt (length old) (length code)) in
     record {
       within = omega arith;
-      answer = (code, got .1, ap (λ s. take n s) (got .3) ∙ fitted code old n low high ends)
+      answer = (code, got .1, ap (λ s. take n s) (got .3) ∙ fitted code old n low high ends);
     }
 
 pub returns-in-Err : need.returns-in-Err
 returns-in-Err g c =
     record {
       within = tt;
-      answer = read-err (g .S·TextSymbol .spells (c .args .text .now)) (c .in-Err .fault) (c .args .code .now) (c .read-code .last .out) (c .in-Err .ensures tt) .0
+      answer = read-err (g .S·TextSymbol .spells (c .args .text .now)) (c .in-Err .fault) (c .args .code .now) (c .read-code .last .out) (c .in-Err .ensures tt) .0;
     }
