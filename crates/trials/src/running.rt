@@ -63,7 +63,8 @@ fn old_vertex<S: TextSymbol + Clone>(label: S) -> Vertex<S> {
     }
 }
 
-// Reads a code of at most 65 symbols.
+// Reads a code of at most 65 symbols, one more than a call takes. A text that spells no code gives the empty code; the
+// tables have no such text.
 fn read_text<S: TextSymbol + Clone>(
     heap: Global,
     old: S,
