@@ -1,0 +1,4 @@
+// Receiving a dispatch: its list is laid down.
+mod checks;
+mod reading;
+mod visiting;
