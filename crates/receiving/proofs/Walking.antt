@@ -258,3 +258,10 @@ module _ (places : List Place) (height d : ℕ) (some : 0 < height) (fits : Fits
       let t : weigh n ≡ task-cost (task-at places top) = ap task-cost is in
       let w = weigh-step high low n lo lz in
       (subst (Fits p3) q3 f3, omega arith)
+
+-- room for the root
+pub first-fits : (places after : List Place) (root : ℕ) → 1 ≤ length places → 2 * root ≤ length places → after ≡ set places 0 (place-of (Visit root)) → Fits after 1
+first-fits places after root some room e =
+    let none-yet : Fits places 0 = record { within = omega arith; each = λ i l. absurd (omega arith) } in
+    let q : 0 + 1 ≡ 1 = omega arith in
+    subst⁻¹ (λ p. Fits p 1) e (subst (Fits (set places 0 (place-of (Visit root)))) q (fits-push places 0 (Visit root) (omega arith) none-yet (omega arith)))

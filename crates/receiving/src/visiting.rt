@@ -83,9 +83,10 @@ fn step<S: WireSymbol>(records: &[u8], work: &mut [Place], walk: Walk) -> Option
 {
     let Walk { height, passed } = walk;
     let top = height - 1;
+    let next = passed as u64 + 2;
     match read_task(work, top) {
         Task::Close(n) => {
-            if n < 2 || n - 2 != passed {
+            if n as u64 != next {
                 return None;
             }
             Some(Walk {
@@ -94,7 +95,7 @@ fn step<S: WireSymbol>(records: &[u8], work: &mut [Place], walk: Walk) -> Option
             })
         }
         Task::Visit(n) => {
-            if n < 2 || n - 2 < passed {
+            if (n as u64) < next {
                 return Some(Walk {
                     height: top,
                     passed,
