@@ -1,2 +1,4 @@
 pub mod Records
 pub mod Walking
+pub mod Buckets
+pub mod Lengthy

@@ -274,3 +274,12 @@ zero-within t k bs v all e h =
     let l = right-links t (k + 2) bs v e .zero-below in
     let m = mul-le-mul-right {m = v .zero - 1} {n = k + 1} (t .width + 8) (omega arith) in
     omega arith
+
+-- a record that is there
+pub look-some : {S : Type 0} (ds : List (Vertex S)) (k : ℕ) → k < length ds → (v : Vertex S) × (look ds (k + 2) ≡ Some v)
+look-some {S} ds k h = by (kind ds (k + 2) (omega arith))
+  where
+    by : Kind ds (k + 2) → (v : Vertex S) × (look ds (k + 2) ≡ Some v)
+    by (is-0 p) = absurd (omega arith)
+    by (is-1 p) = absurd (omega arith)
+    by (is-vertex v p) = (v, p)

@@ -1,3 +1,5 @@
 pub mod Checks
 pub mod Reads
 pub mod Walks
+pub mod Tables
+pub mod Lengths

@@ -1,4 +1,6 @@
 // Receiving a dispatch: its list is laid down.
+mod apart;
 mod checks;
+mod lengths;
 mod reading;
 mod visiting;
