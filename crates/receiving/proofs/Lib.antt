@@ -2,3 +2,4 @@ pub mod Records
 pub mod Walking
 pub mod Buckets
 pub mod Lengthy
+pub mod Downward

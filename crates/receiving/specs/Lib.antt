@@ -3,3 +3,4 @@ pub mod Reads
 pub mod Walks
 pub mod Tables
 pub mod Lengths
+pub mod Layings
