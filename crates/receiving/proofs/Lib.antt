@@ -3,3 +3,4 @@ pub mod Walking
 pub mod Buckets
 pub mod Lengthy
 pub mod Downward
+pub mod Dispatched

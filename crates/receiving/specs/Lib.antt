@@ -4,3 +4,4 @@ pub mod Walks
 pub mod Tables
 pub mod Lengths
 pub mod Layings
+pub mod Receives
