@@ -24,7 +24,11 @@ use symbols::Symbol;
 use symbols::WireSymbol;
 
 // Lays a vertex down, its links by the numbers in their places.
-fn lay_vertex<S: Symbol, B: Shelf<S>>(shelf: &mut B, work: &[Place], vertex: Vertex<S>) -> Result<u32, Full>
+fn lay_vertex<S: Symbol, B: Shelf<S>>(
+    shelf: &mut B,
+    work: &[Place],
+    vertex: Vertex<S>,
+) -> Result<u32, Full>
     ensures answer { λ r. ⌜ (B·Shelf .ready (now (shelf .entry)) → FoundOrAppended (B·Shelf .capacity (now (shelf .entry))) (B·Shelf .vertices (now (shelf .entry))) (noted-vertex (now (work .entry)) vertex) r (B·Shelf .vertices (now (shelf .exit)))) ⌝ }
     ensures ready { λ _. ⌜ (B·Shelf .ready (now (shelf .entry)) → B·Shelf .ready (now (shelf .exit))) ⌝ }
     ensures size { λ _. ⌜ B·Shelf .capacity (now (shelf .exit)) ≡ B·Shelf .capacity (now (shelf .entry)) ⌝ }
