@@ -1,0 +1,6 @@
+pub mod Records
+pub mod Walking
+pub mod Buckets
+pub mod Lengthy
+pub mod Downward
+pub mod Dispatched

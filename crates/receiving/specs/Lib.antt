@@ -1,0 +1,7 @@
+pub mod Checks
+pub mod Reads
+pub mod Walks
+pub mod Tables
+pub mod Lengths
+pub mod Layings
+pub mod Receives
