@@ -1,9 +1,9 @@
 -- What is accepted was written.
-use mathlib.Core.Path.{_≡_, refl, sym, _∙_}
+use mathlib.Core.Path.{_≡_, refl, sym}
 use mathlib.Core.Bool.{Bool}
 use mathlib.Core.List.{List, []}
-use mathlib.Core.Logic.{_⊎_, inl, inr}
-use Prim.Native.Nat.{ℕ, zero, suc, _+_, _*_, _≤_, _<_}
+use mathlib.Core.Logic.{inl, inr}
+use Prim.Native.Nat.{ℕ, zero, suc, _+_, _*_, _≤_}
 use native.Mathlib.Omega.{arith}
 use lib.ListN.{length}
 use Rattle.std.specs.declared.result.Result.{Result}
@@ -24,11 +24,10 @@ use Rattle.wire.specs.declared.faults.FaultyRecord.{FaultyRecord}
 use Rattle.wire.specs.declared.faults.ReceiveFault.{ReceiveFault}
 use Rattle.receiving.specs.Checks.{head-checked, record-checked}
 use Rattle.receiving.specs.Lengths.{Short}
-use Rattle.receiving.specs.Reads.{ReadAs}
-use Rattle.receiving.specs.Receives.{AsWritten, Ends, ByRecords, ByHead, Receives}
+use Rattle.receiving.specs.Receives.{AsWritten, Ends, ByRecords, ByHead}
 use Rattle.receiving.specs.Statements.{OnlyWritten}
 use Rattle.receiving.proofs.Records.{err-ok, ok-same, Reading, reading-none, reading-stop, reading-more, reading-all}
-use Rattle.receiving.proofs.Dispatched.{HeadRight, head-right, head-few}
+use Rattle.receiving.proofs.Dispatched.{head-right, head-few}
 
 module _ {S : Type 0} (before : S → S → Bool) (order : Order before) where
   -- records that read as vertices were read one by one

@@ -1,9 +1,9 @@
 -- What was written reads back, and is taken.
-use mathlib.Core.Path.{_≡_, refl, sym, _∙_, ap, ap₂, subst, subst⁻¹}
-use mathlib.Core.Bool.{Bool, true, false, cond, _||_}
+use mathlib.Core.Path.{_≡_, refl, sym, _∙_, ap, subst, subst⁻¹}
+use mathlib.Core.Bool.{Bool, true, cond, _||_}
 use mathlib.Core.List.{List, [], _∷_, _++_, append-assoc, append-nil}
-use mathlib.Core.Logic.{_↔_, _⊎_, inl, inr, _≢_}
-use Prim.Native.Nat.{ℕ, zero, suc, _+_, _-_, _*_, _/_, _%_, _^_, _<_, _≤_}
+use mathlib.Core.Logic.{inl, inr, _≢_}
+use Prim.Native.Nat.{ℕ, suc, _+_, _-_, _*_, _/_, _%_, _^_, _<_, _≤_}
 use native.Mathlib.Nat.{suc-mul, zero-mul, mul-le-mul, mod-eq-of-lt}
 use native.Mathlib.Omega.{arith}
 use lib.Dec.{leb, eqb}
@@ -19,24 +19,19 @@ use Rattle.symbols.specs.Order.{Order}
 use Rattle.symbols.specs.Wire.{Travel, WireLaws}
 use Rattle.symbols.specs.declared.SymbolFault.{SymbolFault}
 use Rattle.ledger.specs.declared.Vertex.{Vertex}
-use Rattle.ledger.specs.Lists.{Codes, Proper}
 use Rattle.ledger.specs.Diagrams.{look, Formed, Good}
 use Rattle.ledger.specs.Dispatch.{be4, records, dispatch}
-use Rattle.ledger.specs.Ledger.{codes, Lays, fresh}
-use Rattle.ledger.proofs.Ends.{length-snoc, nth-front, nth-last}
+use Rattle.ledger.specs.Ledger.{Lays, fresh}
 use Rattle.ledger.proofs.Drawn.{look-front}
 use Rattle.ledger.proofs.Attaining.{written}
 use Rattle.wire.specs.Heads.{word-of, word, head-of}
 use Rattle.wire.specs.Records.{travel, linked, record-of, comes-before, checked, record-in, onward, records-in}
 use Rattle.wire.specs.declared.head.Head.{Head}
-use Rattle.wire.specs.declared.faults.RecordFault.{RecordFault}
 use Rattle.wire.specs.declared.faults.RecordFault.the-variants.{LinkNotBelow, OneLinkZero, LabelNotAfter}
-use Rattle.wire.specs.declared.faults.FaultyRecord.{FaultyRecord}
 use Rattle.wire.specs.declared.faults.ReceiveFault.{ReceiveFault}
-use Rattle.wire.specs.declared.faults.ReceiveFault.the-variants.{BadLength, OtherVersion, OtherKind, ShelfFull}
+use Rattle.wire.specs.declared.faults.ReceiveFault.the-variants.{BadLength, OtherKind, ShelfFull}
 use Rattle.receiving.specs.Checks.{unless, head-checked}
-use Rattle.receiving.specs.Lengths.{Short, Long}
-use Rattle.receiving.specs.Receives.{AsWritten, Ends, ByRecords, ByHead, Receives, OnlyFull}
+use Rattle.receiving.specs.Receives.{Ends, ByRecords, ByHead, OnlyFull}
 use Rattle.receiving.specs.Statements.{TakesWritten}
 
 -- a number from its four bytes, by the quotients between them
@@ -150,9 +145,11 @@ module _ {S : Type 0} (before : S → S → Bool) (order : Order before) (kind w
       let count : head-of bs .count ≡ length ds = word-be4 (length ds) (omega arith) in
       let root-is : head-of bs .root ≡ root = word-be4 root fits in
       let cp = ap (λ m. m * (width + 8)) count in
-      let six = cond-true (leb (head-of bs .count) capacity) (Ok (head-of bs, drop 14 bs)) (Err ShelfFull) (le-leb (head-of bs .count) capacity (omega arith)) in
-      let five = cond-true (eqb (length bs) (14 + head-of bs .count * (width + 8))) (unless (leb (head-of bs .count) capacity) ShelfFull (Ok (head-of bs, drop 14 bs))) (Err BadLength) (eq-eqb (length bs) (14 + head-of bs .count * (width + 8)) (omega arith)) in
-      let rest : Result (Head × List ℕ) ReceiveFault = unless (eqb (length bs) (14 + head-of bs .count * (width + 8))) BadLength (unless (leb (head-of bs .count) capacity) ShelfFull (Ok (head-of bs, drop 14 bs))) in
+      let right : Result (Head × List ℕ) ReceiveFault = Ok (head-of bs, drop 14 bs) in
+      let six : unless (leb (head-of bs .count) capacity) ShelfFull right ≡ right = cond-true (leb (head-of bs .count) capacity) right (Err ShelfFull) (le-leb (head-of bs .count) capacity (omega arith)) in
+      let five : unless (eqb (length bs) (14 + head-of bs .count * (width + 8))) BadLength (unless (leb (head-of bs .count) capacity) ShelfFull right) ≡ unless (leb (head-of bs .count) capacity) ShelfFull right =
+      cond-true (eqb (length bs) (14 + head-of bs .count * (width + 8))) (unless (leb (head-of bs .count) capacity) ShelfFull right) (Err BadLength) (eq-eqb (length bs) (14 + head-of bs .count * (width + 8)) (omega arith)) in
+      let rest : Result (Head × List ℕ) ReceiveFault = unless (eqb (length bs) (14 + head-of bs .count * (width + 8))) BadLength (unless (leb (head-of bs .count) capacity) ShelfFull right) in
       let four = cond-true (eqb kind kind) rest (Err OtherKind) (eq-eqb kind kind refl) in
       let two = cond-true (eqb (head-of bs .whole) (length bs)) (unless (eqb kind kind) OtherKind rest) (Err BadLength) (eq-eqb (head-of bs .whole) (length bs) (whole ∙ sym long)) in
       let one = cond-true (leb 14 (length bs)) (unless (eqb (head-of bs .whole) (length bs)) BadLength (unless (eqb kind kind) OtherKind rest)) (Err BadLength) (le-leb 14 (length bs) (omega arith)) in

@@ -1,6 +1,6 @@
 // Whether a code of the root's list is longer than 64 symbols: one pass over the records, each measured from its links,
 // which are lower. A length is counted up to 65.
-ghost use Prim.Native.Nat.{suc, _+_, _*_, _<_, _≤_, min};
+ghost use Prim.Native.Nat.{suc, _+_, _<_, _≤_, min};
 ghost use lib.ListN.{length};
 ghost use mathlib.Core.Bool.{true};
 ghost use mathlib.Core.List.{List};
