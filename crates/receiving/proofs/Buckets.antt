@@ -1,8 +1,7 @@
 -- Buckets of records: what a walk down a bucket has seen, and one record more.
 use mathlib.Core.Path.{_≡_, refl, sym, _∙_, ap, subst, subst⁻¹}
-use mathlib.Core.Bool.{Bool, true, false, cond}
-use mathlib.Core.List.{List, [], _∷_}
-use mathlib.Core.Logic.{_↔_, _⊎_, inl, inr}
+use mathlib.Core.List.{List}
+use mathlib.Core.Logic.{_⊎_, inl, inr}
 use Prim.Native.Nat.{ℕ, zero, suc, _+_, _-_, _<_, _≤_, min}
 use native.Mathlib.Omega.{arith}
 use lib.Dec.{eqb}
@@ -10,9 +9,9 @@ use lib.ListN.{length, getD, set}
 use Rattle.std.specs.Finite.{nth}
 use Rattle.std.proofs.shelf.Lists.{length-set, getD-set-same, getD-set-other}
 use Rattle.std.proofs.shelf.Tests.{cases-eq, cases-lt, eq-eqb, ne-eqb, cond-true, cond-false}
-use Rattle.std.specs.declared.option.Option.the-variants.{Some, None}
+use Rattle.std.specs.declared.option.Option.the-variants.{Some}
 use Rattle.ledger.specs.declared.Vertex.{Vertex}
-use Rattle.ledger.specs.Diagrams.{look, Different}
+use Rattle.ledger.specs.Diagrams.{Different}
 use Rattle.ledger.proofs.Canon.{vertex-good}
 use Rattle.ledger.proofs.Reading.{none-some, some-same}
 use Rattle.memory.specs.declared.work.Place.{Place}
@@ -109,9 +108,6 @@ module _ {S : Type 0} (scatter : S → ℕ) (ds : List (Vertex S)) (count : ℕ)
       let q : k + 1 ≡ suc k = omega arith in
       subst⁻¹ (λ m. Table scatter ds count m after) q (record { heads = λ a l. head a l (cases-eq a b); nexts = λ j l. next j l (cases-eq j k) })
     where
-      f : ℕ → ℕ
-      f = bucket-at scatter count ds
-
       here : bucket-at scatter count ds k ≡ b
       here = ap (bucket-in scatter count) at ∙ sym e
 

@@ -1,11 +1,10 @@
 -- The bytes of a dispatch whose head and records are right are those of its vertices and its root.
-use mathlib.Core.Path.{_≡_, refl, sym, _∙_, ap, ap₂, subst, subst⁻¹}
-use mathlib.Core.Bool.{Bool, true, false, cond}
+use mathlib.Core.Path.{_≡_, refl, sym, _∙_, ap, ap₂, subst}
+use mathlib.Core.Bool.{Bool, true, false}
 use mathlib.Core.List.{List, [], _∷_, _++_, append-assoc, append-nil}
 use mathlib.Core.Logic.{_↔_, _⊎_, inl, inr}
-use Prim.Native.Nat.{ℕ, zero, suc, _+_, _-_, _*_, _/_, _%_, _<_, _≤_}
-use native.Mathlib.Nat.{suc-mul, zero-mul, mul-le-mul, mul-le-mul-left}
-use native.Mathlib.Numerals.{add-one}
+use Prim.Native.Nat.{ℕ, suc, _+_, _-_, _*_, _/_, _%_, _<_, _≤_}
+use native.Mathlib.Nat.{suc-mul, zero-mul, mul-le-mul}
 use native.Mathlib.Omega.{arith}
 use lib.Dec.{leb, eqb}
 use lib.ListN.{length, getD, take, drop, length-drop, length-take, take-append-drop}
@@ -13,22 +12,19 @@ use lib.Seq.{length-take-le, getD-take, getD-drop, drop-drop}
 use Rattle.std.proofs.shelf.Lists.{drop-more, getD-past, drop-all}
 use Rattle.std.proofs.shelf.Tests.{cases-bool, cases-lt, leb-true, eqb-true, cond-true, cond-false}
 use Rattle.std.specs.Finite.{nth}
-use Rattle.std.specs.declared.option.Option.the-variants.{Some, None}
+use Rattle.std.specs.declared.option.Option.the-variants.{Some}
 use Rattle.std.specs.declared.result.Result.{Result}
 use Rattle.std.specs.declared.result.Result.the-variants.{Ok, Err}
 use Rattle.symbols.specs.Order.{Order}
-use Rattle.symbols.specs.Wire.{Travel, Bytes, WireLaws}
+use Rattle.symbols.specs.Wire.{Travel, WireLaws}
 use Rattle.symbols.specs.declared.SymbolFault.{SymbolFault}
 use Rattle.ledger.specs.declared.Vertex.{Vertex}
-use Rattle.ledger.specs.Diagrams.{Formed, Good, Different}
+use Rattle.ledger.specs.Diagrams.{Formed}
 use Rattle.ledger.specs.Lists.{Codes}
 use Rattle.ledger.specs.Dispatch.{be4, records, dispatch}
-use Rattle.ledger.specs.Ledger.{codes, Drawing}
-use Rattle.ledger.specs.Visits.{Visits}
 use Rattle.ledger.proofs.Bytes.{received}
 use Rattle.wire.specs.Heads.{word-of, word, head-of}
 use Rattle.wire.specs.Records.{travel, record-of}
-use Rattle.wire.specs.Written.{written}
 use Rattle.wire.specs.declared.head.Head.{Head}
 use Rattle.wire.specs.declared.faults.ReceiveFault.{ReceiveFault}
 use Rattle.wire.specs.declared.faults.ReceiveFault.the-variants.{BadLength, OtherVersion, OtherKind, ShelfFull}

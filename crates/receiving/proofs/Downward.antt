@@ -5,18 +5,17 @@ use mathlib.Core.List.{List, [], _∷_, _++_, append-assoc, append-nil}
 use mathlib.Core.Logic.{_⊎_, inl, inr}
 use Prim.Native.Nat.{ℕ, zero, suc, _+_, _-_, _<_, _≤_}
 use native.Mathlib.Omega.{arith}
-use lib.ListN.{length, getD, take, set, length-append}
-use lib.Seq.{take-suc, take-length}
+use lib.ListN.{length, take, set, length-append}
+use lib.Seq.{take-suc}
 use Rattle.std.proofs.shelf.Lists.{take-at}
 use Rattle.std.proofs.shelf.Tests.{cases-eq}
 use Rattle.std.specs.declared.option.Option.the-variants.{Some, None}
-use Rattle.std.specs.declared.result.Result.{Result}
 use Rattle.std.specs.declared.result.Result.the-variants.{Ok, Err}
 use Rattle.symbols.specs.Order.{Order}
 use Rattle.ledger.specs.declared.Vertex.{Vertex}
-use Rattle.ledger.specs.Lists.{Codes, none, blank, begun, Proper}
+use Rattle.ledger.specs.Lists.{Codes, none, begun, Proper}
 use Rattle.ledger.specs.Diagrams.{look, Formed, Good, Sound}
-use Rattle.ledger.specs.Ledger.{listed, lay, lists, codes, down, down-number, Lays}
+use Rattle.ledger.specs.Ledger.{listed, lay, lists, codes, down, down-number}
 use Rattle.ledger.specs.Laid.{Laid, First}
 use Rattle.ledger.specs.Visits.{Visits, passed, comes-to}
 use Rattle.ledger.proofs.Ends.{length-snoc}
@@ -29,7 +28,7 @@ use Rattle.ledger.proofs.Downs.{laid-is}
 use Rattle.memory.specs.declared.shelf.Full.{Full}
 use Rattle.memory.specs.declared.work.Place.{Place}
 use Rattle.memory.specs.Marks.{number-at, noted, noted-vertex}
-use Rattle.memory.specs.Shelves.{Appends, FoundOrAppended}
+use Rattle.memory.specs.Shelves.{FoundOrAppended}
 use Rattle.receiving.specs.Layings.{lay-all, keeping, Laying, Settled}
 
 -- what the places keep
@@ -59,9 +58,6 @@ module _ {S : Type 0} (before : S → S → Bool) (order : Order before) where
   lay-again : {row : List (Codes S)} → Ledger before row → (a : S) (z o : Codes S) → lay before (lay before (lay before row z) o) (begun a z o) ≡ lay before row (begun a z o)
   lay-again {row} L a z o = by (both-ways (listed before (lay before (lay before row z) o) (begun a z o)))
     where
-      row′ : List (Codes S)
-      row′ = lay before (lay before row z) o
-
       outer : lay before (lay before (lay before row z) o) z ≡ lay before (lay before row z) o
       outer = lay-known before order (lay before (lay before row z) o) z (known-laid before order (lay before row z) o z (lay-knows before order row z))
 

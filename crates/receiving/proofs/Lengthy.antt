@@ -12,7 +12,7 @@ use Rattle.std.specs.declared.option.Option.the-variants.{Some}
 use Rattle.symbols.specs.Order.{Order}
 use Rattle.ledger.specs.declared.Vertex.{Vertex}
 use Rattle.ledger.specs.Lists.{Codes, none, blank, begun, Member, Some-code, Proper}
-use Rattle.ledger.specs.Diagrams.{look, Formed, Good}
+use Rattle.ledger.specs.Diagrams.{look, Formed}
 use Rattle.ledger.specs.Ledger.{codes}
 use Rattle.ledger.proofs.Draws.{codes-formed}
 use Rattle.memory.specs.declared.work.Place.{Place}

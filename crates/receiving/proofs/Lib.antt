@@ -4,3 +4,5 @@ pub mod Buckets
 pub mod Lengthy
 pub mod Downward
 pub mod Dispatched
+pub mod Accepting
+pub mod Reread

@@ -10,7 +10,7 @@ use lib.Dec.{leb, eqb}
 use lib.ListN.{length, take, drop}
 use lib.Seq.{take-take, drop-drop}
 use Rattle.std.specs.Finite.{nth}
-use Rattle.std.proofs.shelf.Tests.{cases-bool, or-parts, or-left, or-right, leb-false, eqb-false, cond-true, cond-false}
+use Rattle.std.proofs.shelf.Tests.{cases-bool, or-parts, leb-false, eqb-false, cond-true, cond-false}
 use Rattle.std.specs.declared.option.Option.the-variants.{Some, None}
 use Rattle.std.specs.declared.result.Result.{Result}
 use Rattle.std.specs.declared.result.Result.the-variants.{Ok, Err}
@@ -23,7 +23,7 @@ use Rattle.ledger.proofs.Canon.{Kind, is-0, is-1, is-vertex, kind, vertex-good}
 use Rattle.ledger.proofs.Drawn.{look-cases}
 use Rattle.ledger.proofs.Ends.{length-snoc, nth-cases}
 use Rattle.wire.specs.Heads.{word}
-use Rattle.wire.specs.Records.{linked, record-of, comes-before, checked, record-in, onward, records-in, label-read, zero-after}
+use Rattle.wire.specs.Records.{linked, record-of, comes-before, checked, record-in, onward, records-in}
 use Rattle.wire.specs.declared.faults.RecordFault.{RecordFault}
 use Rattle.wire.specs.declared.faults.RecordFault.the-variants.{LinkNotBelow, OneLinkZero, LabelNotAfter}
 use Rattle.wire.specs.declared.faults.FaultyRecord.{FaultyRecord}

@@ -14,10 +14,9 @@ use Rattle.ledger.specs.Diagrams.{look}
 use Rattle.ledger.specs.Visits.{Visits, passed, comes-to}
 use Rattle.ledger.proofs.Reading.{none-some, some-same}
 use Rattle.memory.specs.declared.work.Place.{Place}
-use Rattle.receiving.specs.Walks.{vacant, task-of, place-of, task-at, Reaches, Fits, weigh, task-cost, cost, Does, Rest, Leads, ComesDown}
+use Rattle.receiving.specs.Walks.{vacant, task-of, place-of, task-at, Reaches, Fits, weigh, task-cost, cost, Does, Rest, ComesDown}
 use Rattle.receiving.specs.declared.visiting.Task.{Task}
 use Rattle.receiving.specs.declared.visiting.Task.the-variants.{Visit, Close}
-use Rattle.receiving.specs.declared.visiting.Walk.{Walk}
 
 -- tasks in places
 restored : (t : Task) → task-of (place-of t) ≡ t

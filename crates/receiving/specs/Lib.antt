@@ -5,3 +5,4 @@ pub mod Tables
 pub mod Lengths
 pub mod Layings
 pub mod Receives
+pub mod Statements

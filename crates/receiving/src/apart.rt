@@ -3,7 +3,7 @@
 // The work space holds a table of buckets, as many as there are records: a bucket leads to its last record, and each
 // record to the one before it there. So a record is compared with those of its bucket alone, which takes linear time in
 // all where the buckets are even.
-ghost use Prim.Native.Nat.{ℕ, _+_, _*_, _<_, _≤_};
+ghost use Prim.Native.Nat.{ℕ, _+_, _<_, _≤_};
 ghost use lib.ListN.{length, getD};
 ghost use mathlib.Core.Bool.{true};
 ghost use mathlib.Core.List.{List};

@@ -1,6 +1,7 @@
 // Whether a code of the root's list is longer than 64 symbols: one pass over the records, each measured from its links,
 // which are lower. A length is counted up to 65.
-ghost use Prim.Native.Nat.{suc, _+_, _*_, _<_, _≤_, min};
+ghost use Prim.Native.Nat.{suc, _+_, _<_, _≤_, min};
+ghost use lib.Dec.{ltb};
 ghost use lib.ListN.{length};
 ghost use mathlib.Core.Bool.{true};
 ghost use mathlib.Core.List.{List};
@@ -65,6 +66,13 @@ fn measure_all<S: WireSymbol>(records: &[u8], count: u32, work: &mut [Place])
     }
 }
 
+// Whether a length is over the limit.
+fn is_over(measured: u32) -> bool
+    ensures { λ r. ⌜ r ≡ ltb 64 measured ⌝ }
+{
+    measured > LONGEST
+}
+
 // Whether a code of the root's list is longer than 64 symbols.
 pub fn too_long<S: WireSymbol>(records: &[u8], count: u32, root: u32, work: &mut [Place]) -> bool
     requires long { ⌜ length (now records) ≤ 16000000 ⌝ }
@@ -74,5 +82,5 @@ pub fn too_long<S: WireSymbol>(records: &[u8], count: u32, root: u32, work: &mut
     ensures { λ r. ⌜ ((ds : List (Row S)) → ReadAs (travel (S·WireSymbol .kind) (S·WireSymbol .width) (S·WireSymbol .bytes) (S·WireSymbol .reads)) (now (records .entry)) ds → Formed (S·Symbol .before) ds → length ds ≡ count → (r ≡ true) ↔ Long (codes ds root)) ⌝ }
 {
     measure_all::<S>(records, count, work);
-    length_at(work, root) > LONGEST
+    is_over(length_at(work, root))
 }

@@ -30,6 +30,7 @@ use wire::faults::ReceiveFromRecord;
 
 mod apart;
 mod checks;
+pub mod inverse;
 mod laying;
 mod lengths;
 mod reading;

@@ -1,14 +1,10 @@
-use mathlib.Core.List.{[]}
-use mathlib.Core.Path.{_≡_, sym, ap, _∙_, subst⁻¹}
-use Prim.Native.Nat.{_≤_}
+use mathlib.Core.Path.{sym, ap, _∙_, subst⁻¹}
 use native.Mathlib.Omega.{arith}
-use Rattle.std.specs.declared.result.Result.{Result}
-use Rattle.ledger.specs.declared.Vertex.{Vertex}
 use Rattle.ledger.specs.Ledger.{codes}
 use Rattle.wire.specs.Records.{travel}
 use Rattle.receiving.specs.Checks.{head-checked}
 use Rattle.receiving.specs.Receives.{ByHead, ByRecords, InOrder, AsWritten}
-use Rattle.receiving.proofs.Dispatched.{HeadRight, head-right, head-few, records-short, as-written, ends-by}
+use Rattle.receiving.proofs.Dispatched.{head-right, head-few, records-short, as-written, ends-by}
 use Rattle.receiving.proofs.receive.Needs as need
 
 pub check-records-requires : need.check-records-requires

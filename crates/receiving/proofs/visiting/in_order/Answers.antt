@@ -1,5 +1,5 @@
-use mathlib.Core.Path.{_≡_, refl, sym, subst, subst⁻¹}
-use mathlib.Core.Logic.{_↔_, Iff·trans}
+use mathlib.Core.Path.{subst, subst⁻¹}
+use mathlib.Core.Logic.{Iff·trans}
 use native.Mathlib.Omega.{arith}
 use Rattle.std.proofs.shelf.Tests.{false≢true, eqb-true, eq-eqb}
 use Rattle.receiving.proofs.Walking.{begins, first-fits, rest-none}

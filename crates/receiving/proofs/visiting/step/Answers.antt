@@ -1,8 +1,6 @@
-use mathlib.Core.Path.{_≡_, sym}
-use Prim.Native.Nat.{_+_, _-_, _*_, _≤_, _<_, suc}
+use mathlib.Core.Path.{sym}
+use Prim.Native.Nat.{_+_, _-_}
 use native.Mathlib.Omega.{arith}
-use mathlib.Core.Logic.{⊎-elim}
-use lib.ListN.{length}
 use Rattle.receiving.proofs.Walking.{step-passed, step-none, step-wrong, step-close, step-vertex, down-pop, down-push, visit-room}
 use Rattle.receiving.proofs.visiting.step.Needs as need
 
