@@ -1,4 +1,4 @@
-use mathlib.Core.Path.{_≡_, sym, ap, subst, _∙_}
+use mathlib.Core.Path.{subst, _∙_}
 use mathlib.Core.List.{[]}
 use Rattle.desk.specs.Replies.{Put, picked}
 use Rattle.desk.proofs.Answering.{put-alone, plain-text}
