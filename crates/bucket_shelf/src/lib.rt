@@ -4,6 +4,8 @@
 // Promise: any records and any heads will do, whatever lies in them; from the first cut to 0 on, the chains fit the
 // vertices. Cost: a look is one step; a find or an append is a chain's length, a few steps while there are about as many
 // heads as vertices; a cut is what it cuts, but to 0 it is the heads; to gather is the vertices and the heads.
+#![tactic(auto)]
+
 ghost use Rattle.std.specs.Prelude.{◌≡◌, ◌+◌, ◌<◌, min, true, ◌↔◌, [], length, take, if◌then◌else◌, Ok};
 ghost use Rattle.ledger.specs.Gather.{gather, Gatherable};
 ghost use Rattle.memory.specs.Shelves.{Appends, FoundOrAppended, marks_in, Renumbered};

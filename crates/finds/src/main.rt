@@ -2,6 +2,8 @@
 //
 // The first line names the kind of symbol. All memory is taken at the start; a line costs what its call costs, and besides
 // only time in its own length. Answers are written out before a read that may have to wait.
+#![tactic(auto)]
+
 mod input;
 mod session;
 

@@ -4,6 +4,8 @@
 // shelf is full exactly where the ledger says so. A pair that the recall table knows, and one that the rule settles, is
 // not walked: with a table that keeps all, a pair is walked once at most. The work space needs a place for each frame,
 // and there are never more frames than the sum of the two numbers.
+#![tactic(auto)]
+
 ghost use Rattle.std.specs.Prelude.{◌≡◌, ◌+◌, ◌<◌, ◌≤◌, true, length, take, is_err, None};
 ghost use Rattle.memory.specs.declared.recall.Question.{Question};
 ghost use Rattle.joining.specs.Rules.{number_of};

@@ -1,5 +1,5 @@
 -- What laying down and clearing out leave, and what is read back of what is written.
-use Rattle.std.proofs.Common.{◌≡◌, ℕ, zero, Bool, true, ◌⊎◌, ◌↔◌, List, ◌++◌, Some, sym, refl, ap, ◌∙◌, subst, inl, inr, arith, length-append}
+use Rattle.std.proofs.Common.{◌≡◌, ℕ, Bool, true, ◌⊎◌, ◌↔◌, List, ◌++◌, Some, sym, refl, ap, ◌∙◌, subst, inl, inr, arith, length-append}
 use mathlib.Core.Path.{subst⁻¹}
 use mathlib.Core.List.{Memᴰ}
 use Rattle.symbols.specs.Order.{Order}

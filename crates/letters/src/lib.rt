@@ -2,6 +2,8 @@
 //
 // A letter is one of 95 cases, so no value of the type is another byte. A code of letters has its bytes as its text: a space
 // and a slash are letters like any other, and nothing is trimmed. Reading looks at each byte twice, writing at each letter once.
+#![tactic(auto)]
+
 ghost use Rattle.std.specs.Prelude.{◌≡◌, ◌*◌, ◌%◌, ◌^◌, [], ◌∷◌, Ok, Decides, OnOk, nat_lt, slice_index, refl};
 ghost use Rattle.letters.specs.Letters.{byte_of, letter_of};
 ghost use Rattle.letters.specs.Codes.{spelled, text_of};

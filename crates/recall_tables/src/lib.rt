@@ -4,6 +4,8 @@
 // goes over them all. The table counts the turns in which it filled a slot. A full slot has its turn, and the record at
 // that turn's place has a note of the slot's number; what lay in memory before is never an entry, since the notes of
 // the turns so far are the table's own. With no turns there is no entry, so to forget is to count from 0 again.
+#![tactic(auto)]
+
 ghost use Rattle.std.specs.Prelude.{◌≡◌, None};
 ghost use Rattle.memory.specs.declared.recall.Question.{Question};
 ghost use Rattle.memory.specs.Tables.{Told};

@@ -2,6 +2,8 @@
 //
 // A find costs a step for each vertex, so this shelf suits few vertices, or little memory: it takes no records beyond
 // the vertices. To look, to append and to cut cost one step, and to gather costs a step for each vertex.
+#![tactic(auto)]
+
 ghost use Rattle.std.specs.Prelude.{◌≡◌, []};
 ghost use Rattle.row_shelf.specs.Row.{row_bounds, row_capacity, row_vertices};
 

@@ -3,6 +3,8 @@
 // By its cases and a number of full range, no value of the type is no step. A code of steps has a text such as T3/B20/P7: the
 // letter of each unit and the number in decimal, with slashes between. Reading looks at each byte twice, and writing at each
 // step twice: first to see that the call can succeed, since one that is refused changes nothing.
+#![tactic(auto)]
+
 ghost use Rattle.std.specs.Prelude.{◌≡◌, ◌+◌, ◌*◌, ◌%◌, ◌^◌, refl};
 ghost use Rattle.texts.specs.Texts.{ReadTo};
 ghost use Rattle.steps.specs.Paths.{text_of, Exact};

@@ -1,6 +1,6 @@
 -- What follows from the law of an order.
-use Rattle.std.proofs.Common.{◌≡◌, ℕ, Bool, true, false, not, ◌&&◌, ◌⊎◌, sym, refl, ◌∙◌, inl, inr, arith}
-use Rattle.symbols.specs.Order.{Order, OneBefore, same_symbol}
+use Rattle.std.proofs.Common.{◌≡◌, ℕ, Bool, true, false, not, ◌⊎◌, refl, inl, inr, arith}
+use Rattle.symbols.specs.Order.{Order, OneBefore}
 
 pub both_ways : (b : Bool) → (b ≡ true) ⊎ (b ≡ false)
 both_ways true = inl refl

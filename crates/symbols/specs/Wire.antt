@@ -1,5 +1,5 @@
 -- The law of the bytes of symbols that travel.
-use Rattle.std.specs.Prelude.{◌≡◌, ℕ, ◌<◌, ◌≤◌, List, length, Ok, Err, Result, slice_index}
+use Rattle.std.specs.Prelude.{◌≡◌, ℕ, ◌<◌, ◌≤◌, List, length, Ok, Result, slice_index}
 use Rattle.symbols.specs.declared.SymbolFault.{SymbolFault}
 
 -- each element is a byte

@@ -2,6 +2,8 @@
 //
 // A code is a sequence of symbols. The store is written once, over any kind of symbol: it asks for an order and for a
 // number to scatter by, and no more. Only a dispatch asks for bytes.
+#![tactic(auto)]
+
 ghost use Rattle.std.specs.Prelude.{◌≡◌, ℕ, ◌≤◌, Bool, true, false, ◌↔◌, List, ◌++◌, length, drop, Result};
 ghost use Rattle.symbols.specs.Order.{Order, OneBefore};
 ghost use Rattle.symbols.specs.Refusals.{symbol_refusal};

@@ -2,6 +2,8 @@
 //
 // A kind says what a text spells, and which text a code has; reading and writing are inverse. Both take time in the length
 // of the text, and neither changes anything where it refuses.
+#![tactic(auto)]
+
 ghost use Rattle.std.specs.Prelude.{◌≡◌, ℕ, List, Ok, Result, OnOk, slice_set};
 ghost use Rattle.texts.specs.Refusals.{refusal};
 ghost use Rattle.texts.specs.Texts.{OwnText, ReadTo, WrittenTo};

@@ -1,5 +1,7 @@
 // Trials: tables of calls, run on each shelf and each recall table over memory full of old numbers. One line a call: what
 // is called, and what it answers.
+#![tactic(auto)]
+
 use std::io;
 
 mod answer;

@@ -3,6 +3,8 @@
 // A walk from the list meets its vertices in the order in which laying the list down in an empty ledger numbers them; then
 // the length is known, and the head and the records are written. The time is linear in the vertices that are reached; no
 // other part of the work space is read or written.
+#![tactic(auto)]
+
 mod met;
 mod records;
 mod walk;
