@@ -9,11 +9,11 @@ use Rattle.client.proofs.same_bag_twice.Goals as goal
 pub returns : goal.returns
 returns g c =
     let before = g.S.Symbol.before in
-    let capacity = g.B.Shelf.capacity c.fit-out-store.result.shelf in
-    let s = state (g.B.Shelf.vertices c.fit-out-store.result.shelf) (g.R.RecallTable.table c.fit-out-store.result.recall) in
+    let capacity = g.B.Shelf.capacity c.fit_out-store.result.shelf in
+    let s = state (g.B.Shelf.vertices c.fit_out-store.result.shelf) (g.R.RecallTable.table c.fit_out-store.result.recall) in
     let s' = state (g.B.Shelf.vertices c.add-first.new.self.shelf) (g.R.RecallTable.table c.add-first.new.self.recall) in
     let s'' = state (g.B.Shelf.vertices c.add-second.new.self.shelf) (g.R.RecallTable.table c.add-second.new.self.recall) in
-    let st = subst (λ (n : ℕ). Stands before None n (g.B.Shelf.ready c.fit-out-store.result.shelf) s) (sym c.fit-out-store.ensures.size) (c.fit-out-store.ensures.stands None) in
+    let st = subst (λ (n : ℕ). Stands before None n (g.B.Shelf.ready c.fit_out-store.result.shelf) s) (sym c.fit_out-store.ensures.size) (c.fit_out-store.ensures.stands None) in
     let first = c.add-first.ensures.answer None st in
     let st' = subst (λ (n : ℕ). Stands before None n (g.B.Shelf.ready c.add-first.new.self.shelf) s') (sym c.add-first.ensures.size) first.1 in
     let second = c.add-second.ensures.answer None st' in

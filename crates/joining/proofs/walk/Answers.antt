@@ -29,29 +29,29 @@ returns-in-Some g c =
     }
 
 pub advance-requires : goal.advance-requires
-advance-requires g c = record { fits = c.loop-n.invariant.0; unended = c.in-default.ensures }
+advance-requires g c = record { fits = c.loop-n.invariant.0; unended = c.in_default.ensures }
 
-pub returns-in-err-state : goal.returns-in-err-state
-returns-in-err-state g c =
+pub returns-in_err-state : goal.returns-in_err-state
+returns-in_err-state g c =
     record {
       answer = λ ready sound first second right.
           let vs = g.B.Shelf.vertices c.args.shelf.now in
           let goal = joint g.S.Symbol.before vs (number_of c.args.rule) c.args.pair in
           let R = c.loop-n.invariant.3 ready vs goal (begins g.S.Symbol.before vs (number_of c.args.rule) _ c.args.work.now c.args.pair sound first second right) in
-          let t = c.in-err-state.ensures.turns (c.loop-n.invariant.1 ready) vs goal R in
+          let t = c.in_err-state.ensures.turns (c.loop-n.invariant.1 ready) vs goal R in
           at_err (λ r. Walked g.S.Symbol.before (g.B.Shelf.capacity c.args.shelf.now) vs goal r (g.B.Shelf.vertices c.advance.new.shelf) (g.R.RecallTable.table c.advance.new.recall))
-          c.from-residual.result c.from-residual.ensures.0
+          c.from_residual.result c.from_residual.ensures.0
           (λ e. (subst (λ (n : ℕ). n < length (lay g.S.Symbol.before (lists vs) goal)) c.loop-n.invariant.2 t.0, t.1));
       ready = λ h. c.advance.ensures.ready (c.loop-n.invariant.1 h);
       size = c.advance.ensures.size ∙ c.loop-n.invariant.2;
     }
 
 pub loop-n-smaller : goal.loop-n-smaller
-loop-n-smaller g c = c.in-ok-state.ensures.falls.1
+loop-n-smaller g c = c.in_ok-state.ensures.falls.1
 
 pub loop-n-preserved : goal.loop-n-preserved
 loop-n-preserved g c =
-    let t = c.in-ok-state.ensures in (
+    let t = c.in_ok-state.ensures in (
       t.falls.0,
       λ h. c.advance.ensures.ready (c.loop-n.invariant.1 h),
       c.advance.ensures.size ∙ c.loop-n.invariant.2,

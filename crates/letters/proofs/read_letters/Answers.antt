@@ -6,10 +6,10 @@ use Rattle.letters.specs.Codes.{spelled}
 use Rattle.letters.specs.Spelling.{spelled_more, spelled_stops, spelled_all}
 use Rattle.letters.proofs.read_letters.Goals as goal
 
-pub returns-in-err-letter : goal.returns-in-err-letter
-returns-in-err-letter c =
-    let p = err_from_is_err_and c.from-residual.result c.from-residual.ensures.1 in
-    let stops = spelled_stops c.args.from.now c.loop-i.invariant.0 c.loop-i.i _ c.loop-i-test.true c.loop-i.invariant.1 c.in-err-letter.ensures in
+pub returns-in_err-letter : goal.returns-in_err-letter
+returns-in_err-letter c =
+    let p = err_from_is_err_and c.from_residual.result c.from_residual.ensures.1 in
+    let stops = spelled_stops c.args.from.now c.loop-i.invariant.0 c.loop-i.i _ c.loop-i-test.true c.loop-i.invariant.1 c.in_err-letter.ensures in
     rw (p.1, p.2) (begun_err (spelled c.args.from.now) _ c.args.out.now c.loop-i.out _ stops refl)
 
 pub loop-i-init : goal.loop-i-init
@@ -18,12 +18,12 @@ loop-i-init c = ([], refl, refl, sym (filled_none c.args.out.now))
 pub loop-i-preserved : goal.loop-i-preserved
 loop-i-preserved c =
     let code = c.loop-i.invariant.0 in
-    let x = c.in-ok-letter.letter in
+    let x = c.in_ok-letter.letter in
     let more = filled_more code x c.args.out.now in
     let long = c.loop-i.invariant.2 in
     let was = c.loop-i.invariant.3 in (
       code ++ x ∷ [],
-      spelled_more c.args.from.now code c.loop-i.i x c.loop-i-test.true c.loop-i.invariant.1 c.in-ok-letter.ensures,
+      spelled_more c.args.from.now code c.loop-i.i x c.loop-i-test.true c.loop-i.invariant.1 c.in_ok-letter.ensures,
       length_push code x ∙ ap (λ n. n + 1) long,
       c.put.ensures ∙ (cc),
     )

@@ -13,7 +13,7 @@ pub loop-i-preserved : goal.loop-i-preserved
 loop-i-preserved c =
     let i = c.loop-i.i in
     let more = written_more c.args.code.now c.args.out.now i _ c.loop-i-test.true (omega arith) in
-    (λ j. set (c.loop-i.invariant j) i (c.to-byte.ensures j)) ∙ more
+    (λ j. set (c.loop-i.invariant j) i (c.to_byte.ensures j)) ∙ more
 
 pub returns : goal.returns
 returns c =

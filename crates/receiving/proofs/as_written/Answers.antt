@@ -8,7 +8,7 @@ returns g c =
     record {
       good = λ e. omega arith;
       answer = λ ds R l. (
-        λ e. (omega arith, (c.all-apart.ensures ds R l).0 e, subst⁻¹ (λ n. Visits ds 0 c.args.root n) l ((c.in-order.ensures ds R).0 c.if-not-in-order.false)),
-        λ r. (c.all-apart.ensures ds R l).1 r.1,
+        λ e. (omega arith, (c.all_apart.ensures ds R l).0 e, subst⁻¹ (λ n. Visits ds 0 c.args.root n) l ((c.in_order.ensures ds R).0 c.if-not-in_order.false)),
+        λ r. (c.all_apart.ensures ds R l).1 r.1,
       );
     }

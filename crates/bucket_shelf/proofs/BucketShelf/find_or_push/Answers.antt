@@ -7,7 +7,7 @@ use Rattle.bucket_shelf.proofs.BucketShelf.find_or_push.Goals as goal
 pub returns-in-Some : goal.returns-in-Some
 returns-in-Some g c =
     let s = c.args.self.now in
-    let used : c.in-use-used.result ≡ min s.used (room (records_of s) (heads_of s)) = c.in-use-used.ensures.value in
+    let used : c.in_use-used.result ≡ min s.used (room (records_of s) (heads_of s)) = c.in_use-used.ensures.value in
     let P : ℕ → Type 0 = λ u. First (take u (vertices_in (records_of s))) c.args.vertex (Some c.in-Some.n) in
     record {
       answer = λ at h. inl (c.in-Some.n, subst P used (c.in-Some.ensures at (rw used h)), refl, refl);
@@ -18,7 +18,7 @@ returns-in-Some g c =
 pub returns-then-used-room : goal.returns-then-used-room
 returns-then-used-room g c =
     let s = c.args.self.now in
-    let used : c.in-use-used.result ≡ min s.used (room (records_of s) (heads_of s)) = c.in-use-used.ensures.value in
+    let used : c.in_use-used.result ≡ min s.used (room (records_of s) (heads_of s)) = c.in_use-used.ensures.value in
     let P : ℕ → Type 0 = λ u. First (take u (vertices_in (records_of s))) c.args.vertex None in
     record {
       answer = λ at h. inr (subst P used (c.in-None.ensures at (rw used h)), (omega arith, refl));
@@ -29,7 +29,7 @@ returns-then-used-room g c =
 pub returns-else-used-room : goal.returns-else-used-room
 returns-else-used-room g c =
     let s = c.args.self.now in
-    let used : c.in-use-used.result ≡ min s.used (room (records_of s) (heads_of s)) = c.in-use-used.ensures.value in
+    let used : c.in_use-used.result ≡ min s.used (room (records_of s) (heads_of s)) = c.in_use-used.ensures.value in
     let P : ℕ → Type 0 = λ u. First (take u (vertices_in (records_of s))) c.args.vertex None in
     record {
       answer = λ at h. inr (subst P used (c.in-None.ensures at (rw used h)), c.push.ensures.answer);

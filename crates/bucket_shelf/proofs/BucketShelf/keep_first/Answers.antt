@@ -13,8 +13,8 @@ returns g c =
     let n = c.args.n in
     let kept = c.min-self.result in
     let size : room es hs' ≡ room es hs = room_same es es hs hs' refl c.cut.ensures.wide in
-    let used : c.in-use-used.result ≡ min s.used (room es hs) = c.in-use-used.ensures.value in
-    let is : min kept (room es hs') ≡ min c.in-use-used.result n = omega arith in
+    let used : c.in_use-used.result ≡ min s.used (room es hs) = c.in_use-used.ensures.value in
+    let is : min kept (room es hs') ≡ min c.in_use-used.result n = omega arith in
     record {
       vertices = ap (λ m. take m (vertices_in es)) (is ∙ ap (λ m. min m n) used) ∙ take_min (vertices_in es) (min s.used (room es hs)) n;
       ready = λ h. rw is (c.cut.ensures.ready (rw used h));

@@ -13,7 +13,7 @@ returns-in-Some g c =
     let es' = c.gather.new.records.at.now in
     let hs' = c.gather.new.heads.at.now in
     let size : room es' hs' ≡ room es hs = room_same es es' hs hs' c.in-Some.ensures.long c.in-Some.ensures.wide in
-    let used : c.in-use-used.result ≡ min s.used (room es hs) = c.in-use-used.ensures.value in
+    let used : c.in_use-used.result ≡ min s.used (room es hs) = c.in_use-used.ensures.value in
     let P : ℕ → Type 0 = λ u. Gathers g.S.Symbol.scatter u c.args.marks.now es hs (Some c.in-Some.kept) c.gather.new.marks es' hs' in
     let q = subst P used c.in-Some.ensures.answer in
     let is : min c.in-Some.kept (room es' hs') ≡ c.in-Some.kept = omega (arith, q.1) in
@@ -32,7 +32,7 @@ returns-in-None g c =
     let hs = heads_of s in
     let es' = c.gather.new.records.at.now in
     let hs' = c.gather.new.heads.at.now in
-    let used : c.in-use-used.result ≡ min s.used (room es hs) = c.in-use-used.ensures.value in
+    let used : c.in_use-used.result ≡ min s.used (room es hs) = c.in_use-used.ensures.value in
     let P : ℕ → Type 0 = λ u. Gathers g.S.Symbol.scatter u c.args.marks.now es hs None c.gather.new.marks es' hs' in
     let q = subst P used c.in-None.ensures.answer in
     record {

@@ -11,11 +11,11 @@ returns g c =
     let hs = heads_of s in
     let es' = c.link.new.records.at.now in
     let hs' = c.link.new.heads.at.now in
-    let u = c.in-use-used.result in
+    let u = c.in_use-used.result in
     let long = c.link.ensures.long in
     let wide = c.link.ensures.wide in
     let size : room es' hs' ≡ room es hs = room_same es es' hs hs' long wide in
-    let is : u ≡ min s.used (room es hs) = c.in-use-used.ensures.value in
+    let is : u ≡ min s.used (room es hs) = c.in_use-used.ensures.value in
     let free : u < room es hs = omega arith in
     let next : min (u + 1) (room es' hs') ≡ u + 1 = omega arith in
     record {

@@ -20,10 +20,10 @@ loop-top-preserved g c =
     let u = c.args.used in
     let in_bucket = bucket g.S.Symbol.scatter (length hs) in
     let vs = vertices_in es in
-    let e = c.entry-at-entry.result in
+    let e = c.entry_at-entry.result in
     let top = c.loop-top.top in
     let next = c.min-top-in-loop-top.result in
-    let there : slice_get es (top - 1) ≡ Some e = nth_entry es (top - 1) e (omega arith) c.entry-at-entry.ensures in
+    let there : slice_get es (top - 1) ≡ Some e = nth_entry es (top - 1) e (omega arith) c.entry_at-entry.ensures in
     let seen : slice_get vs (top - 1) ≡ Some e.vertex = nth_map vertex_of es (top - 1) e there in (
       omega arith,
       λ p h.

@@ -12,4 +12,4 @@ pub returns-then-n-used : goal.returns-then-n-used
 returns-then-n-used g c = sym (ap (option_map parts) (look_past (vertices_in c.args.records.now) c.args.used c.args.n (omega arith) (omega arith)))
 
 pub returns : goal.returns
-returns g c = sym (ap (option_map parts) (look_entry c.args.records.now c.args.used c.args.n c.entry-at-entry.result c.requires.0 (omega arith) (omega arith) c.entry-at-entry.ensures))
+returns g c = sym (ap (option_map parts) (look_entry c.args.records.now c.args.used c.args.n c.entry_at-entry.result c.requires.0 (omega arith) (omega arith) c.entry_at-entry.ensures))

@@ -16,27 +16,27 @@ returns-then-marks-used g c =
     length-take-le c.args.used (vertices_in c.args.records.now) (omega (arith, length_vertices c.args.records.now)) in
     (λ q. c.if-marks-used.true (sym (length-map ps is_mark) ∙ q.numbered ∙ long), refl, refl, refl)
 
-pub returns-then-not-all-stay : goal.returns-then-not-all-stay
-returns-then-not-all-stay g c =
+pub returns-then-not-all_stay : goal.returns-then-not-all_stay
+returns-then-not-all_stay g c =
     let ms = marks_in c.args.marks.now in
     let vs = take c.args.used (vertices_in c.args.records.now) in
-    (λ q. both_ways c.all-stay.result c.if-not-all-stay.true (c.all-stay.ensures.1 (all_stay ms vs q)), refl, refl, refl)
+    (λ q. both_ways c.all_stay.result c.if-not-all_stay.true (c.all_stay.ensures.1 (all_stay ms vs q)), refl, refl, refl)
 
 pub returns : goal.returns
 returns g c =
     let ps = c.args.marks.now in
-    let qs = c.number-marks.new.marks in
+    let qs = c.number_marks.new.marks in
     let vs = take c.args.used (vertices_in c.args.records.now) in
     let long : length vs ≡ c.args.used = length-take-le c.args.used (vertices_in c.args.records.now) (omega (arith, length_vertices c.args.records.now)) in
-    let same : marks_in qs ≡ marks_in ps = c.number-marks.ensures.same in
+    let same : marks_in qs ≡ marks_in ps = c.number_marks.ensures.same in
     let fit : Gatherable (marks_in ps) vs =
-    gatherable (marks_in ps) vs (length-map ps is_mark ∙ c.if-marks-used.false ∙ sym long) (c.all-stay.ensures.0 c.if-not-all-stay.false) in
+    gatherable (marks_in ps) vs (length-map ps is_mark ∙ c.if-marks-used.false ∙ sym long) (c.all_stay.ensures.0 c.if-not-all_stay.false) in
     let P : List Bool → Type 0 = λ ms. Gatherable ms vs in (
       fit,
       c.keep.ensures.few,
       c.keep.ensures.vertices ∙
-          noted_gather qs vs (renumbered_now ps qs c.number-marks.auto.marks same c.number-marks.ensures.numbers) (subst P (sym same) fit) ∙
+          noted_gather qs vs (renumbered_now ps qs c.number_marks.auto.marks same c.number_marks.ensures.numbers) (subst P (sym same) fit) ∙
           ap (λ ms. gather ms vs) same,
-      c.number-marks.ensures.numbers,
+      c.number_marks.ensures.numbers,
       c.keep.ensures.ready,
     )

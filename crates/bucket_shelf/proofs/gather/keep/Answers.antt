@@ -10,7 +10,7 @@ use Rattle.bucket_shelf.proofs.Indices.{length_vertices, get_or_vertices}
 use Rattle.bucket_shelf.proofs.Chaining.{chained_none}
 use Rattle.bucket_shelf.proofs.Keeping.{Keeps, keeps_none, keeps_no, keeps_yes, keeps_all}
 use Rattle.bucket_shelf.proofs.gather.keep.Goals as goal
-use Rattle.bucket_shelf.proofs.gather.keep.Goals.{then-is-marked, else-is-marked}
+use Rattle.bucket_shelf.proofs.gather.keep.Goals.{then-is_marked, else-is_marked}
 
 pub loop-i-init : goal.loop-i-init
 loop-i-init g c = (
@@ -18,8 +18,8 @@ loop-i-init g c = (
   chained_none g.S.Symbol.scatter c.args.records.now c.clear.new.heads c.clear.ensures,
 )
 
-pub keep-vertex-requires : goal.keep-vertex-requires
-keep-vertex-requires g c = (omega (arith, c.loop-i.invariant.0.behind), (omega (arith, c.loop-i.invariant.0.behind), omega arith))
+pub keep_vertex-requires : goal.keep_vertex-requires
+keep_vertex-requires g c = (omega (arith, c.loop-i.invariant.0.behind), (omega (arith, c.loop-i.invariant.0.behind), omega arith))
 
 pub loop-i-preserved : goal.loop-i-preserved
 loop-i-preserved g c =
@@ -32,20 +32,20 @@ loop-i-preserved g c =
     let i = c.loop-i.i in
     let in-marks : i < length ms = omega (arith, length-map ps is_mark) in
     let in-records : i < length xs = omega (arith, length_vertices c.args.records.now) in
-    let marked : get_or ms i false ≡ c.is-marked.result = mark_here ms i c.is-marked.result c.is-marked.ensures in
-    elim c.if-is-marked.branch [
-      | then-is-marked w ↦
-          let v = w.entry-at-entry.result.vertex in
+    let marked : get_or ms i false ≡ c.is_marked.result = mark_here ms i c.is_marked.result c.is_marked.ensures in
+    elim c.if-is_marked.branch [
+      | then-is_marked w ↦
+          let v = w.entry_at-entry.result.vertex in
           let P : List (Vertex g.row.S.Denot) → Type 0 = λ ys. Keeps f ms xs ys (to + 1) (i + 1) in
           rw (w.records-is, w.to-is, w.heads-is) (
-            subst P (sym w.keep-vertex.ensures.vertices)
-                (keeps_yes f ms xs (vertices_in es) to i v in-marks in-records (marked ∙ w.if-is-marked.true)
-                (get_or_vertices es i w.entry-at-entry.result (omega arith) w.entry-at-entry.ensures) c.loop-i.invariant.0),
-            w.keep-vertex.ensures.ready c.loop-i.invariant.1,
+            subst P (sym w.keep_vertex.ensures.vertices)
+                (keeps_yes f ms xs (vertices_in es) to i v in-marks in-records (marked ∙ w.if-is_marked.true)
+                (get_or_vertices es i w.entry_at-entry.result (omega arith) w.entry_at-entry.ensures) c.loop-i.invariant.0),
+            w.keep_vertex.ensures.ready c.loop-i.invariant.1,
           )
-      | else-is-marked w ↦
+      | else-is_marked w ↦
           rw (w.records-is, w.to-is, w.heads-is) (
-            keeps_no f ms xs (vertices_in es) to i in-marks in-records (marked ∙ w.if-is-marked.false) c.loop-i.invariant.0,
+            keeps_no f ms xs (vertices_in es) to i in-marks in-records (marked ∙ w.if-is_marked.false) c.loop-i.invariant.0,
             c.loop-i.invariant.1,
           )
     ]

@@ -9,10 +9,10 @@ returns g c =
     let all : c.used-used.result - 0 ≡ length vs = omega (arith, c.used-used.ensures) in
     let long = length-take-le (c.used-used.result - 0) c.args.work.now (omega (arith, c.used-used.ensures, c.requires)) in
     record {
-      answer = λ sound good. c.keep-reached.ensures.answer sound.formed (long ∙ all) good;
-      ready = c.keep-reached.ensures.ready;
-      size = c.keep-reached.ensures.size;
+      answer = λ sound good. c.keep_reached.ensures.answer sound.formed (long ∙ all) good;
+      ready = c.keep_reached.ensures.ready;
+      size = c.keep_reached.ensures.size;
       kept =
-          drop-append-drop (c.used-used.result - 0) c.args.work.now c.keep-reached.new.marks (length vs) (omega (arith, c.used-used.ensures))
-          (c.keep-reached.auto.marks ∙ long);
+          drop-append-drop (c.used-used.result - 0) c.args.work.now c.keep_reached.new.marks (length vs) (omega (arith, c.used-used.ensures))
+          (c.keep_reached.auto.marks ∙ long);
     }

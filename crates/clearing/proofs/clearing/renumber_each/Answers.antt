@@ -11,7 +11,7 @@ loop-i-init c = refl
 pub loop-i-preserved : goal.loop-i-preserved
 loop-i-preserved c =
     let x = get_or c.loop-i.lists c.loop-i.i 0 in
-    c.renumber-at.ensures ∙
+    c.renumber_at.ensures ∙
     map_over_more (noted c.args.marks.now) c.args.lists.now c.loop-i.lists c.loop-i.i x c.loop-i-test.true c.loop-i.invariant
     (get_or_default c.loop-i.lists c.loop-i.i 0 x (omega (arith, c.loop-i-test.true, c.loop-i.auto.lists)))
 

@@ -11,8 +11,8 @@ pub returns : goal.returns
 returns g c = λ formed long.
     let vs = g.B.Shelf.vertices c.args.shelf.now in
     let keep = c.args.keep.now in
-    let bare = c.unmark-all.new.marks in
+    let bare = c.unmark_all.new.marks in
     let start =
-    spread_start vs keep (marks_in bare) (length-map bare is_mark ∙ c.unmark-all.auto.marks ∙ long) (unmarked_all bare (length c.args.marks.now) c.unmark-all.ensures) in
-    let end = c.spread.ensures formed keep (subst⁻¹ (Spread vs keep (length vs + 2)) c.mark-each.ensures start) in
+    spread_start vs keep (marks_in bare) (length-map bare is_mark ∙ c.unmark_all.auto.marks ∙ long) (unmarked_all bare (length c.args.marks.now) c.unmark_all.ensures) in
+    let end = c.spread.ensures formed keep (subst⁻¹ (Spread vs keep (length vs + 2)) c.mark_each.ensures start) in
     (spread_gatherable g.S.Symbol.before vs formed keep (marks_in c.spread.new.marks) end, spread_keeps g.S.Symbol.before vs formed keep (marks_in c.spread.new.marks) end)

@@ -10,10 +10,10 @@ returns g c = λ formed.
     let zero_is : c.in-Some.zero ≡ l.0.zero = ap (λ (t : g.row.S.Denot × ℕ × ℕ). t.1) l.2 in
     let one_is : c.in-Some.one ≡ l.0.one = ap (λ (t : g.row.S.Denot × ℕ × ℕ). t.2) l.2 in
     inl (
-      c.is-marked.ensures.0 c.if-not-is-marked.false,
+      c.is_marked.ensures.0 c.if-not-is_marked.false,
       (
         l.0,
         l.1,
-        c.mark-both.ensures ∙ ap₂ (λ z o. with_mark (with_mark (marks_in c.args.marks.now) z) o) zero_is one_is,
+        c.mark_both.ensures ∙ ap₂ (λ z o. with_mark (with_mark (marks_in c.args.marks.now) z) o) zero_is one_is,
       ),
     )

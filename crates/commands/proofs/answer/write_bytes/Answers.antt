@@ -6,32 +6,32 @@ use Rattle.commands.specs.Hexadecimals.{hexadecimal}
 use Rattle.commands.proofs.Hexes.{length_hex}
 use Rattle.commands.proofs.Spelling.{line_fed}
 use Rattle.commands.proofs.answer.write_bytes.Goals as goal
-use Rattle.commands.proofs.answer.write_bytes.Goals.{then-is-empty-via-then-is-empty, then-is-empty-via-else-is-empty+then-out-bytes}
+use Rattle.commands.proofs.answer.write_bytes.Goals.{then-is_empty-via-then-is_empty, then-is_empty-via-else-is_empty+then-out-bytes}
 
-pub returns-then-is-empty : goal.returns-then-is-empty
-returns-then-is-empty c =
+pub returns-then-is_empty : goal.returns-then-is_empty
+returns-then-is_empty c =
     let long = length_hex c.args.bytes.now in
     let more = length_push (hexadecimal c.args.bytes.now) 10 in
-    elim c.then-is-empty.branch [ then-is-empty-via-then-is-empty w ↦ (omega (arith, eqb-true _ _ (sym w.if-is-empty.ensures)), refl) | then-is-empty-via-else-is-empty+then-out-bytes w ↦ (omega arith, refl) ]
+    elim c.then-is_empty.branch [ then-is_empty-via-then-is_empty w ↦ (omega (arith, eqb-true _ _ (sym w.if-is_empty.ensures)), refl) | then-is_empty-via-else-is_empty+then-out-bytes w ↦ (omega arith, refl) ]
 
-pub returns-in-err-n : goal.returns-in-err-n
-returns-in-err-n c =
-    let p = err_from_is_err_and c.from-residual.result c.from-residual.ensures.1 in
+pub returns-in_err-n : goal.returns-in_err-n
+returns-in_err-n c =
+    let p = err_from_is_err_and c.from_residual.result c.from_residual.ensures.1 in
     let more = length_push (hexadecimal c.args.bytes.now) 10 in
-    let room = c.in-err-n.ensures.answer in
+    let room = c.in_err-n.ensures.answer in
     rw p.1 (omega arith, room.1)
 
 pub bounds-out-n : goal.bounds-out-n
 bounds-out-n c =
     let long = length_hex c.args.bytes.now in
-    let put = c.in-ok-n.ensures.answer in
-    let some = eqb-false (length c.args.out.now) 0 (sym c.if-is-empty.ensures) in
+    let put = c.in_ok-n.ensures.answer in
+    let some = eqb-false (length c.args.out.now) 0 (sym c.if-is_empty.ensures) in
     omega arith
 
 pub returns : goal.returns
 returns c =
     let long = length_hex c.args.bytes.now in
     let more = length_push (hexadecimal c.args.bytes.now) 10 in
-    let put = c.in-ok-n.ensures.answer in
-    let some = eqb-false (length c.args.out.now) 0 (sym c.if-is-empty.ensures) in
-    (omega arith, omega arith, ap (λ s. set s c.in-ok-n.n 10) put.2 ∙ line_fed (hexadecimal c.args.bytes.now) c.args.out.now c.in-ok-n.n (sym put.1) (omega arith))
+    let put = c.in_ok-n.ensures.answer in
+    let some = eqb-false (length c.args.out.now) 0 (sym c.if-is_empty.ensures) in
+    (omega arith, omega arith, ap (λ s. set s c.in_ok-n.n 10) put.2 ∙ line_fed (hexadecimal c.args.bytes.now) c.args.out.now c.in_ok-n.n (sym put.1) (omega arith))

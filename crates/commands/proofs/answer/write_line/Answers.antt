@@ -10,5 +10,5 @@ pub returns : goal.returns
 returns c = (
   omega (arith, length_push c.args.text.now 10),
   omega (arith, length_push c.args.text.now 10),
-  line_copied c.args.text.now c.args.out.now _ c.copy-from-slice.ensures.after (omega arith),
+  line_copied c.args.text.now c.args.out.now _ c.copy_from_slice.ensures.after (omega arith),
 )

@@ -10,7 +10,7 @@ returns-then-out-bytes c = record { answer = (omega (arith, length_hex c.args.by
 pub loop-i-preserved : goal.loop-i-preserved
 loop-i-preserved c =
     let more = write_more c.args.bytes.now c.args.out.now c.loop-i.i (omega arith) (omega arith) in
-    (λ j. set (set (c.loop-i.invariant j) (2 * c.loop-i.i) (c.write-digit.ensures j)) (2 * c.loop-i.i + 1) (c.write-digit-in-loop-i.ensures j)) ∙ more
+    (λ j. set (set (c.loop-i.invariant j) (2 * c.loop-i.i) (c.write_digit.ensures j)) (2 * c.loop-i.i + 1) (c.write_digit-in-loop-i.ensures j)) ∙ more
 
 pub returns : goal.returns
 returns c =

@@ -7,4 +7,4 @@ use Rattle.counting.proofs.marking.mark_only.Goals as goal
 pub returns : goal.returns
 returns c =
     subst⁻¹ (OnlyMarked c.args.list) c.mark.ensures
-    (only_marked c.unmark-up-to.new.work c.args.list (omega arith) c.unmark-up-to.ensures)
+    (only_marked c.unmark_up_to.new.work c.args.list (omega arith) c.unmark_up_to.ensures)

@@ -8,7 +8,7 @@ returns g c = λ formed.
     let l = looked (g.B.Shelf.vertices c.args.shelf.now) c.args.n _ (c.in-Some.ensures.value formed) in
     let zero_is : c.in-Some.zero ≡ l.0.zero = ap (λ (t : g.row.S.Denot × ℕ × ℕ). t.1) l.2 in
     let one_is : c.in-Some.one ≡ l.0.one = ap (λ (t : g.row.S.Denot × ℕ × ℕ). t.2) l.2 in (
-      sym c.is-marked.ensures ∙ c.if-not-is-marked.false,
+      sym c.is_marked.ensures ∙ c.if-not-is_marked.false,
       (
         l.0,
         l.1,

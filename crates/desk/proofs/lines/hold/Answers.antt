@@ -9,12 +9,12 @@ returns c =
     let old = c.args.line.now in
     let more = c.args.more.now in
     let held = c.args.held in
-    let n = c.count-fitting-n.result in
-    let is = c.count-fitting-n.ensures in
-    let self = c.copy-from-slice.new.self in
+    let n = c.count_fitting-n.result in
+    let is = c.count_fitting-n.ensures in
+    let self = c.copy_from_slice.new.self in
     let low = c.requires in
     let zero : n - 0 ≡ n = omega arith in
-    let e = c.copy-from-slice.ensures.after ∙ ap (λ k. take k more) zero in
+    let e = c.copy_from_slice.ensures.after ∙ ap (λ k. take k more) zero in
     let long = ap length e ∙ length-take-le n more (omega arith) in
     record {
       within = search (rules, overwrites);

@@ -58,8 +58,8 @@ returns-in-Count g c =
     let s = (state (g.B.Shelf.vertices c.args.store.now.shelf) (g.R.RecallTable.table c.args.store.now.recall)) in
     record {
       answer = λ wide travel st. (
-        subst⁻¹ (λ command. Calls g.S.Symbol.before g.S.TextSymbol.spells (g.B.Shelf.capacity c.args.store.now.shelf) s c.args.work.now c.args.code.now (meaning command) c.of-count.result s c.args.code.now) c.in-Count.is
-            (c.count.result, c.count.ensures travel st, c.of-count.ensures, refl),
+        subst⁻¹ (λ command. Calls g.S.Symbol.before g.S.TextSymbol.spells (g.B.Shelf.capacity c.args.store.now.shelf) s c.args.work.now c.args.code.now (meaning command) c.of_count.result s c.args.code.now) c.in-Count.is
+            (c.count.result, c.count.ensures travel st, c.of_count.ensures, refl),
         st,
       );
       size = refl;
@@ -70,8 +70,8 @@ returns-in-Pick g c =
     let s = (state (g.B.Shelf.vertices c.args.store.now.shelf) (g.R.RecallTable.table c.args.store.now.recall)) in
     record {
       answer = λ wide travel st. (
-        subst⁻¹ (λ command. Calls g.S.Symbol.before g.S.TextSymbol.spells (g.B.Shelf.capacity c.args.store.now.shelf) s c.args.work.now c.args.code.now (meaning command) c.of-pick.result s c.pick.new.out) c.in-Pick.is
-            (c.pick.result, c.pick.ensures travel st, c.of-pick.ensures, refl),
+        subst⁻¹ (λ command. Calls g.S.Symbol.before g.S.TextSymbol.spells (g.B.Shelf.capacity c.args.store.now.shelf) s c.args.work.now c.args.code.now (meaning command) c.of_pick.result s c.pick.new.out) c.in-Pick.is
+            (c.pick.result, c.pick.ensures travel st, c.of_pick.ensures, refl),
         st,
       );
       size = refl;
@@ -82,8 +82,8 @@ returns-in-Join g c =
     let s = (state (g.B.Shelf.vertices c.args.store.now.shelf) (g.R.RecallTable.table c.args.store.now.recall)) in
     record {
       answer = λ wide travel st. let goes = c.join.ensures.answer travel st in (
-        subst⁻¹ (λ command. Calls g.S.Symbol.before g.S.TextSymbol.spells (g.B.Shelf.capacity c.args.store.now.shelf) s c.args.work.now c.args.code.now (meaning command) c.of-list.result (state (g.B.Shelf.vertices c.join.new.self.shelf) (g.R.RecallTable.table c.join.new.self.recall)) c.args.code.now) c.in-Join.is
-            (c.join.result, goes.0, c.of-list.ensures),
+        subst⁻¹ (λ command. Calls g.S.Symbol.before g.S.TextSymbol.spells (g.B.Shelf.capacity c.args.store.now.shelf) s c.args.work.now c.args.code.now (meaning command) c.of_list.result (state (g.B.Shelf.vertices c.join.new.self.shelf) (g.R.RecallTable.table c.join.new.self.recall)) c.args.code.now) c.in-Join.is
+            (c.join.result, goes.0, c.of_list.ensures),
         goes.1,
       );
       size = c.join.ensures.size;
@@ -94,8 +94,8 @@ returns-in-Write g c =
     let s = (state (g.B.Shelf.vertices c.args.store.now.shelf) (g.R.RecallTable.table c.args.store.now.recall)) in
     record {
       answer = λ wide travel st. (
-        subst⁻¹ (λ command. Calls g.S.Symbol.before g.S.TextSymbol.spells (g.B.Shelf.capacity c.args.store.now.shelf) s c.args.work.now c.args.code.now (meaning command) c.not-served.result s c.args.code.now) c.in-Write.is
-            (c.not-served.ensures, refl),
+        subst⁻¹ (λ command. Calls g.S.Symbol.before g.S.TextSymbol.spells (g.B.Shelf.capacity c.args.store.now.shelf) s c.args.work.now c.args.code.now (meaning command) c.not_served.result s c.args.code.now) c.in-Write.is
+            (c.not_served.ensures, refl),
         st,
       );
       size = refl;
@@ -106,8 +106,8 @@ returns-in-Receive g c =
     let s = (state (g.B.Shelf.vertices c.args.store.now.shelf) (g.R.RecallTable.table c.args.store.now.recall)) in
     record {
       answer = λ wide travel st. (
-        subst⁻¹ (λ command. Calls g.S.Symbol.before g.S.TextSymbol.spells (g.B.Shelf.capacity c.args.store.now.shelf) s c.args.work.now c.args.code.now (meaning command) c.not-served-in-Receive.result s c.args.code.now) c.in-Receive.is
-            (c.not-served-in-Receive.ensures, refl),
+        subst⁻¹ (λ command. Calls g.S.Symbol.before g.S.TextSymbol.spells (g.B.Shelf.capacity c.args.store.now.shelf) s c.args.work.now c.args.code.now (meaning command) c.not_served-in-Receive.result s c.args.code.now) c.in-Receive.is
+            (c.not_served-in-Receive.ensures, refl),
         st,
       );
       size = refl;

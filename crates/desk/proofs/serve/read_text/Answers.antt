@@ -6,11 +6,11 @@ use Rattle.desk.proofs.serve.read_text.Goals as goal
 
 pub returns-in-Ok : goal.returns-in-Ok
 returns-in-Ok g c =
-    let new = c.read-code.new.out in
+    let new = c.read_code.new.out in
     let old = c.args.code.now in
     let got = read_ok (g.S.TextSymbol.spells c.args.text.now) old new c.in-Ok.n c.in-Ok.ensures in
     let code = got.0 in
-    let long : length new ≡ length old = c.read-code.auto.out in
+    let long : length new ≡ length old = c.read_code.auto.out in
     let n = c.min.result in
     let is = c.min.ensures in
     let as_long = got.2 in
@@ -26,5 +26,5 @@ pub returns-in-Err : goal.returns-in-Err
 returns-in-Err g c =
     record {
       within = tt;
-      answer = (read_err (g.S.TextSymbol.spells c.args.text.now) c.in-Err.fault c.args.code.now c.read-code.new.out c.in-Err.ensures).0;
+      answer = (read_err (g.S.TextSymbol.spells c.args.text.now) c.in-Err.fault c.args.code.now c.read_code.new.out c.in-Err.ensures).0;
     }

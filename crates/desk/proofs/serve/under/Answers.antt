@@ -12,19 +12,19 @@ returns-in-Ok g c wide work travel st =
     let capacity = g.B.Shelf.capacity c.args.store.now.shelf in
     let s = (state (g.B.Shelf.vertices c.args.store.now.shelf) (g.R.RecallTable.table c.args.store.now.recall)) in
     let room = length c.args.code.now in
-    let reply = c.of-list.result in
-    served_code s reply s (g.S.TextSymbol.spells c.args.text.now) room c.in-Ok.n c.read-text.new.code
+    let reply = c.of_list.result in
+    served_code s reply s (g.S.TextSymbol.spells c.args.text.now) room c.in-Ok.n c.read_text.new.code
     (λ code. (r : Result ℕ Fault) × Unders before capacity s c.args.list code r × (reply ≡ list_reply r) × (s ≡ s))
     c.in-Ok.ensures.answer
     (λ code h. (h.0, unders_whole before capacity room code wide s c.args.list h.0 h.1, h.2, h.3))
-    (c.under.result, c.under.ensures travel st, c.of-list.ensures, refl)
+    (c.under.result, c.under.ensures travel st, c.of_list.ensures, refl)
 
 pub returns-in-Err : goal.returns-in-Err
 returns-in-Err g c wide work travel st =
     let before = g.S.Symbol.before in
     let capacity = g.B.Shelf.capacity c.args.store.now.shelf in
     let s = (state (g.B.Shelf.vertices c.args.store.now.shelf) (g.R.RecallTable.table c.args.store.now.recall)) in
-    let reply = c.of-text.result in
+    let reply = c.of_text.result in
     coded_err s reply s (g.S.TextSymbol.spells c.args.text.now) c.in-Err.fault
     (λ code. (r : Result ℕ Fault) × Unders before capacity s c.args.list code r × (reply ≡ list_reply r) × (s ≡ s))
-    c.in-Err.ensures.answer c.of-text.ensures refl
+    c.in-Err.ensures.answer c.of_text.ensures refl

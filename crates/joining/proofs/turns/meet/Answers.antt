@@ -27,35 +27,35 @@ returns-in-Some-recall g c =
           (ap (g.R.RecallTable.table c.args.recall.now) (sym c.question.ensures) ∙ sym c.in-Some-recall.ensures);
     }
 
-pub returns-in-default-take-apart : goal.returns-in-default-take-apart
-returns-in-default-take-apart g c =
+pub returns-in_default-take_apart : goal.returns-in_default-take_apart
+returns-in_default-take_apart g c =
     let near = nearer_known c.args.work.now c.args.height c.args.pair 0 c.requires in
-    let open-pair = c.in-default.ensures in
+    let open-pair = c.in_default.ensures in
     record {
       fits = near.fits;
       falls = near.falls;
       goes = λ old goal R.
           absurd
           (turn_never g.S.Symbol.before g.met.S.Symbol.ordered old (number_of c.args.rule) goal _ _ c.args.work.now c.args.height c.args.pair R open-pair.0 open-pair.1 open-pair.2
-          (sym (c.in-default-take-apart.ensures.value R.sound.formed)));
+          (sym (c.in_default-take_apart.ensures.value R.sound.formed)));
     }
 
 pub returns : goal.returns
 returns g c =
-    let low = c.in-Some-take-apart.ensures.below.0 in
+    let low = c.in-Some-take_apart.ensures.below.0 in
     let near =
-    subst⁻¹ (λ (ps : List Place). Nearer c.args.work.now (meeting c.args.height c.args.pair) ps (meeting (c.args.height + 1) c.in-Some-take-apart.split.outer))
-    c.write-frame.ensures
-    (nearer_push c.args.work.now c.args.height c.args.pair c.in-Some-take-apart.split.outer c.requires low) in
-    let open-pair = c.in-default.ensures in
+    subst⁻¹ (λ (ps : List Place). Nearer c.args.work.now (meeting c.args.height c.args.pair) ps (meeting (c.args.height + 1) c.in-Some-take_apart.split.outer))
+    c.write_frame.ensures
+    (nearer_push c.args.work.now c.args.height c.args.pair c.in-Some-take_apart.split.outer c.requires low) in
+    let open-pair = c.in_default.ensures in
     let r = c.requires.reaches in
     let room : c.args.height < length c.args.work.now = omega arith in
     record {
       fits = near.fits;
       falls = near.falls;
       goes = λ old goal R.
-          subst⁻¹ (λ (ps : List Place). Running g.S.Symbol.before old (number_of c.args.rule) goal (g.B.Shelf.vertices c.args.shelf.now) (g.R.RecallTable.table c.args.recall.now) ps (meeting (c.args.height + 1) c.in-Some-take-apart.split.outer))
-          c.write-frame.ensures
+          subst⁻¹ (λ (ps : List Place). Running g.S.Symbol.before old (number_of c.args.rule) goal (g.B.Shelf.vertices c.args.shelf.now) (g.R.RecallTable.table c.args.recall.now) ps (meeting (c.args.height + 1) c.in-Some-take_apart.split.outer))
+          c.write_frame.ensures
           (turn_push g.S.Symbol.before g.met.S.Symbol.ordered old (number_of c.args.rule) goal _ _ c.args.work.now c.args.height c.args.pair R open-pair.0 open-pair.1
-          c.in-Some-take-apart.split (sym (c.in-Some-take-apart.ensures.value R.sound.formed)) room);
+          c.in-Some-take_apart.split (sym (c.in-Some-take_apart.ensures.value R.sound.formed)) room);
     }

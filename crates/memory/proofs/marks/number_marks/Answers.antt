@@ -7,11 +7,11 @@ use Rattle.memory.proofs.marks.number_marks.Goals as goal
 pub loop-i-init : goal.loop-i-init
 loop-i-init c = numbering_none c.args.marks.now
 
-pub overflow-add-count : goal.overflow-add-count
-overflow-add-count c = omega (arith, c.loop-i.invariant.counted, before_few (marks_in c.args.marks.now) c.loop-i.i)
+pub overflow_add-count : goal.overflow_add-count
+overflow_add-count c = omega (arith, c.loop-i.invariant.counted, before_few (marks_in c.args.marks.now) c.loop-i.i)
 
-pub overflow-add-count-in-loop-i : goal.overflow-add-count-in-loop-i
-overflow-add-count-in-loop-i c =
+pub overflow_add-count-in-loop-i : goal.overflow_add-count-in-loop-i
+overflow_add-count-in-loop-i c =
     let one = mark_few c.from-count.result _ c.from-count.ensures in
     omega (arith, c.loop-i.invariant.counted, before_few (marks_in c.args.marks.now) c.loop-i.i)
 

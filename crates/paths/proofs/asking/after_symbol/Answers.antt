@@ -23,5 +23,5 @@ loop-label-preserved g c sound good =
 pub returns : goal.returns
 returns g c sound good =
     let k = c.loop-label.invariant sound good in
-    let r = lead_out g.S.Symbol.before g.met.S.Symbol.ordered _ sound c.loop-label.at (c.in-default.ensures.value sound.formed) k.0 c.args.symbol in
+    let r = lead_out g.S.Symbol.before g.met.S.Symbol.ordered _ sound c.loop-label.at (c.in_default.ensures.value sound.formed) k.0 c.args.symbol in
     (r.0, r.1 ∙ sym k.1)

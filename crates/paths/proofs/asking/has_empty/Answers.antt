@@ -11,4 +11,4 @@ loop-zero-preserved g c sound good =
 pub returns : goal.returns
 returns g c sound good =
     let k = c.loop-zero.invariant sound good in
-    empty_end g.S.Symbol.before g.met.S.Symbol.ordered _ sound c.loop-zero.at (c.in-default.ensures.value sound.formed) k.0 ∙ sym k.1
+    empty_end g.S.Symbol.before g.met.S.Symbol.ordered _ sound c.loop-zero.at (c.in_default.ensures.value sound.formed) k.0 ∙ sym k.1

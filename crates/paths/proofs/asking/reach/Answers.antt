@@ -8,7 +8,7 @@ pub loop-symbol-preserved : goal.loop-symbol-preserved
 loop-symbol-preserved g c sound good =
     let k = c.loop-symbol.invariant sound good in
     lead_more g.S.Symbol.before g.met.S.Symbol.ordered _ sound c.args.list c.args.code.now c.loop-symbol.symbol-index c.loop-symbol.at _ c.symbol-item.result
-    c.loop-symbol-test.true c.symbol-item.is k (c.after-symbol-at.ensures sound k.0)
+    c.loop-symbol-test.true c.symbol-item.is k (c.after_symbol-at.ensures sound k.0)
 
 pub returns : goal.returns
 returns g c =

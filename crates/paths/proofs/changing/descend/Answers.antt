@@ -22,9 +22,9 @@ loop-frame-preserved g c =
             st.good sound k.0,
             st.member sound k.0 ∙ k.1,
             λ change.
-                waits_push g.S.Symbol.before (g.B.Shelf.vertices c.args.shelf.now) _ c.loop-frame.work c.loop-frame.height c.to-place.result c.in-Some.frame _
+                waits_push g.S.Symbol.before (g.B.Shelf.vertices c.args.shelf.now) _ c.loop-frame.work c.loop-frame.height c.to_place.result c.in-Some.frame _
                 (changed g.S.Symbol.before change (codes (g.B.Shelf.vertices c.args.shelf.now) c.loop-frame.at) (drop c.loop-frame.spot c.args.code.now)) _
-                in-work c.to-place.ensures (st.makes sound k.0 change)
+                in-work c.to_place.ensures (st.makes sound k.0 change)
                 (changed_proper g.S.Symbol.before g.met.S.Symbol.ordered change _ _ (codes_proper g.S.Symbol.before g.met.S.Symbol.ordered _ sound c.loop-frame.at k.0))
                 (k.2 change),
           ),
@@ -34,10 +34,10 @@ pub returns : goal.returns
 returns g c =
     record {
       within = omega (arith, c.loop-frame.invariant.0, c.loop-frame.invariant.1);
-      member = λ sound good. let k = c.loop-frame.invariant.2 sound good in (c.in-default.ensures sound k.0).1 ∙ k.1;
+      member = λ sound good. let k = c.loop-frame.invariant.2 sound good in (c.in_default.ensures sound k.0).1 ∙ k.1;
       waits = λ sound good change.
           let k = c.loop-frame.invariant.2 sound good in
           subst (λ (t : Codes g.row.S.Denot). Waits g.S.Symbol.before (g.B.Shelf.vertices c.args.shelf.now) c.args.code.now c.loop-frame.work c.loop-frame.height t
           (changed g.S.Symbol.before change (codes (g.B.Shelf.vertices c.args.shelf.now) c.args.list) c.args.code.now))
-          (sym ((c.in-default.ensures sound k.0).0 change)) (k.2 change);
+          (sym ((c.in_default.ensures sound k.0).0 change)) (k.2 change);
     }

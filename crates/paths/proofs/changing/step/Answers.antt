@@ -3,10 +3,10 @@ use Rattle.paths.proofs.Descending.{step_end, step_new_end, step_zero_end, step_
 use Rattle.paths.proofs.changing.step.Goals as goal
 
 pub returns-then-spot-code : goal.returns-then-spot-code
-returns-then-spot-code g c = step_end g.S.Symbol.before g.met.S.Symbol.ordered _ _ _ _ c.in-default.ensures.value c.if-spot-code.true
+returns-then-spot-code g c = step_end g.S.Symbol.before g.met.S.Symbol.ordered _ _ _ _ c.in_default.ensures.value c.if-spot-code.true
 
-pub returns-in-default : goal.returns-in-default
-returns-in-default g c = step_new_end g.S.Symbol.before g.met.S.Symbol.ordered _ _ _ _ c.in-default.ensures.value c.if-spot-code.false
+pub returns-in_default : goal.returns-in_default
+returns-in_default g c = step_new_end g.S.Symbol.before g.met.S.Symbol.ordered _ _ _ _ c.in_default.ensures.value c.if-spot-code.false
 
 pub returns-then-spot-code-2 : goal.returns-then-spot-code-2
 returns-then-spot-code-2 g c = step_zero_end g.S.Symbol.before g.met.S.Symbol.ordered _ _ _ _ _ _ _ c.in-Some.ensures.below c.in-Some.ensures.value c.requires c.if-spot-code-2.true

@@ -8,5 +8,5 @@ unfolding slot_of
 returns c =
     record {
       value = ap (λ n. n * c.args.count / 4294967296) c.scatter.ensures;
-      within = part_below c.scatter.result c.args.count c.scatter.type-inv;
+      within = part_below c.scatter.result c.args.count c.scatter.type_inv;
     }

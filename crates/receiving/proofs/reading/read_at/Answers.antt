@@ -10,5 +10,5 @@ returns g c =
     let size = c.width-size.result + 8 in
     let same : size ≡ w.width + 8 = ap (λ n. n + 8) c.width-size.ensures in
     let cut : k * size + size - k * size ≡ size = omega arith in
-    c.read-record.ensures ∙
+    c.read_record.ensures ∙
     ap (record_of (travel w.kind w.width w.bytes w.reads) (k + 2)) (ap (λ n. take n (drop (k * size) bs)) cut ∙ ap (λ n. take n (drop (k * n) bs)) same)

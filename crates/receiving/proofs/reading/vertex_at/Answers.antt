@@ -13,8 +13,8 @@ returns-then-k-width g c =
           (subst (λ w. length c.args.records.now < (c.args.n - 2 + 1) * (w + 8)) c.width.ensures h));
     }
 
-pub read-at-requires : goal.read-at-requires
-read-at-requires g c =
+pub read_at-requires : goal.read_at-requires
+read_at-requires g c =
     let h : (c.args.n - 2 + 1) * (c.width.result + 8) ≤ length c.args.records.now = omega arith in
     let p = product_some (c.args.n - 2) c.width.result in
     record {

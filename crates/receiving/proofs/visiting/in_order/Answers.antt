@@ -7,15 +7,15 @@ use Rattle.receiving.proofs.visiting.in_order.Goals as goal
 
 pub loop-walk-init : goal.loop-walk-init
 loop-walk-init g c = (
-  first_fits c.args.work.now _ c.args.root c.requires.some c.requires.room c.write-task.ensures,
-  λ ds R. begins ds c.args.count c.args.work.now _ c.args.root c.requires.some c.write-task.ensures,
+  first_fits c.args.work.now _ c.args.root c.requires.some c.requires.room c.write_task.ensures,
+  λ ds R. begins ds c.args.count c.args.work.now _ c.args.root c.requires.some c.write_task.ensures,
 )
 
 pub step-requires : goal.step-requires
 step-requires g c = record { long = c.requires.long; fits = c.loop-walk.invariant.0; some = omega arith }
 
-pub returns-in-default : goal.returns-in-default
-returns-in-default g c = λ ds R. (λ e. absurd (false≢true e), λ v. absurd (c.in-default.ensures.leads ds c.args.count R ((c.loop-walk.invariant.1 ds R).0 v)))
+pub returns-in_default : goal.returns-in_default
+returns-in_default g c = λ ds R. (λ e. absurd (false≢true e), λ v. absurd (c.in_default.ensures.leads ds c.args.count R ((c.loop-walk.invariant.1 ds R).0 v)))
 
 pub loop-walk-smaller : goal.loop-walk-smaller
 loop-walk-smaller g c = c.in-Some.ensures.down.1

@@ -19,21 +19,21 @@ returns-then-n-next-2 g c =
       leads = λ ds k R. step_passed ds k c.args.work.now c.args.walk.height c.args.walk.passed c.in-Visit.n c.requires.some c.in-Visit.ensures (omega arith);
     }
 
-pub returns-in-default : goal.returns-in-default
-returns-in-default g c =
+pub returns-in_default : goal.returns-in_default
+returns-in_default g c =
     record {
       down = tt;
-      leads = λ ds k R. step_none ds k c.args.work.now c.args.walk.height c.args.walk.passed c.in-Visit.n c.requires.some c.in-Visit.ensures (omega arith) (sym (c.in-default.ensures.value ds R));
+      leads = λ ds k R. step_none ds k c.args.work.now c.args.walk.height c.args.walk.passed c.in-Visit.n c.requires.some c.in-Visit.ensures (omega arith) (sym (c.in_default.ensures.value ds R));
     }
 
-pub write-task-requires : goal.write-task-requires
-write-task-requires g c = let r = visit_room c.args.work.now c.args.walk.height c.args.walk.passed c.requires.some c.requires.fits c.in-Visit.n c.in-Visit.ensures in omega arith
+pub write_task-requires : goal.write_task-requires
+write_task-requires g c = let r = visit_room c.args.work.now c.args.walk.height c.args.walk.passed c.requires.some c.requires.fits c.in-Visit.n c.in-Visit.ensures in omega arith
 
-pub write-task-requires-in-Visit : goal.write-task-requires-in-Visit
-write-task-requires-in-Visit g c = let r = visit_room c.args.work.now c.args.walk.height c.args.walk.passed c.requires.some c.requires.fits c.in-Visit.n c.in-Visit.ensures in omega arith
+pub write_task-requires-in-Visit : goal.write_task-requires-in-Visit
+write_task-requires-in-Visit g c = let r = visit_room c.args.work.now c.args.walk.height c.args.walk.passed c.requires.some c.requires.fits c.in-Visit.n c.in-Visit.ensures in omega arith
 
-pub write-task-requires-in-Visit-2 : goal.write-task-requires-in-Visit-2
-write-task-requires-in-Visit-2 g c = let r = visit_room c.args.work.now c.args.walk.height c.args.walk.passed c.requires.some c.requires.fits c.in-Visit.n c.in-Visit.ensures in omega arith
+pub write_task-requires-in-Visit-2 : goal.write_task-requires-in-Visit-2
+write_task-requires-in-Visit-2 g c = let r = visit_room c.args.work.now c.args.walk.height c.args.walk.passed c.requires.some c.requires.fits c.in-Visit.n c.in-Visit.ensures in omega arith
 
 pub returns-in-Some : goal.returns-in-Some
 returns-in-Some g c =
@@ -41,8 +41,8 @@ returns-in-Some g c =
     let r = visit_room c.args.work.now c.args.walk.height c.args.walk.passed c.requires.some c.requires.fits c.in-Visit.n c.in-Visit.ensures in
     record {
       down = down_push c.args.work.now c.args.walk.height c.args.walk.passed c.requires.some c.requires.fits c.in-Visit.n c.in-Visit.ensures b.0 c.in-Some.vertex.zero c.in-Some.vertex.one b.1 b.2 _ _ _
-          c.write-task.ensures c.write-task-in-Visit.ensures c.write-task-in-Visit-2.ensures;
+          c.write_task.ensures c.write_task-in-Visit.ensures c.write_task-in-Visit-2.ensures;
       leads = λ ds k R.
           step_vertex ds k c.args.work.now c.args.walk.height c.args.walk.passed c.in-Visit.n c.requires.some c.in-Visit.ensures (omega arith) c.in-Some.vertex (sym (c.in-Some.ensures.value ds R)) _ _ _ (omega arith)
-          c.write-task.ensures c.write-task-in-Visit.ensures c.write-task-in-Visit-2.ensures;
+          c.write_task.ensures c.write_task-in-Visit.ensures c.write_task-in-Visit-2.ensures;
     }

@@ -13,9 +13,9 @@ returns-then-marks-used g c =
     let m = length-map c.args.marks.now is_mark in
     (λ fit. let e = fit.numbered in c.if-marks-used.true (omega arith), refl)
 
-pub returns-then-not-all-stay : goal.returns-then-not-all-stay
-returns-then-not-all-stay g c =
-    (λ fit. both_ways c.all-stay.result c.if-not-all-stay.true (c.all-stay.ensures.1 (all_stay (marks_in c.args.marks.now) (take c.args.used c.args.run.now) fit)), refl)
+pub returns-then-not-all_stay : goal.returns-then-not-all_stay
+returns-then-not-all_stay g c =
+    (λ fit. both_ways c.all_stay.result c.if-not-all_stay.true (c.all_stay.ensures.1 (all_stay (marks_in c.args.marks.now) (take c.args.used c.args.run.now) fit)), refl)
 
 pub returns : goal.returns
 returns g c =
@@ -23,12 +23,12 @@ returns g c =
     let m = length-map c.args.marks.now is_mark in
     let vs = take c.args.used c.args.run.now in
     let ps = c.args.marks.now in
-    let qs = c.number-marks.new.marks in
-    let same = c.number-marks.ensures.same in
-    let fit = gatherable (marks_in ps) vs (omega arith) (c.all-stay.ensures.0 c.if-not-all-stay.false) in
-    let again = renumbered_now ps qs c.number-marks.auto.marks same c.number-marks.ensures.numbers in (
+    let qs = c.number_marks.new.marks in
+    let same = c.number_marks.ensures.same in
+    let fit = gatherable (marks_in ps) vs (omega arith) (c.all_stay.ensures.0 c.if-not-all_stay.false) in
+    let again = renumbered_now ps qs c.number_marks.auto.marks same c.number_marks.ensures.numbers in (
       fit,
       c.keep.ensures.few,
       c.keep.ensures.vertices ∙ noted_gather qs vs again (subst (λ ms. Gatherable ms vs) (sym same) fit) ∙ ap (λ ms. gather ms vs) same,
-      c.number-marks.ensures.numbers,
+      c.number_marks.ensures.numbers,
     )

@@ -6,24 +6,24 @@ use Rattle.memory.specs.Shelves.{is_mark, marks_in}
 use Rattle.memory.proofs.Gathers.{mark_here}
 use Rattle.row_shelf.proofs.Rows.{keeps_none, keeps_yes, keeps_no, keeps_all}
 use Rattle.row_shelf.proofs.run.keep.Goals as goal
-use Rattle.row_shelf.proofs.run.keep.Goals.{then-is-marked, else-is-marked}
+use Rattle.row_shelf.proofs.run.keep.Goals.{then-is_marked, else-is_marked}
 
 pub loop-i-init : goal.loop-i-init
 loop-i-init g c = keeps_none (noted_vertex c.args.marks.now) (marks_in c.args.marks.now) c.args.run.now
 
 pub loop-i-preserved : goal.loop-i-preserved
 loop-i-preserved g c =
-    let marked = mark_here (marks_in c.args.marks.now) c.loop-i.i c.is-marked.result c.is-marked.ensures in
+    let marked = mark_here (marks_in c.args.marks.now) c.loop-i.i c.is_marked.result c.is_marked.ensures in
     let long = length-map c.args.marks.now is_mark in
-    elim c.if-is-marked.branch [
-      | then-is-marked w ↦
+    elim c.if-is_marked.branch [
+      | then-is_marked w ↦
           rw (w.run-is, w.to-is, w.new_vertex.ensures.noted)
           (keeps_yes (noted_vertex c.args.marks.now) (marks_in c.args.marks.now) c.args.run.now c.loop-i.run c.loop-i.to c.loop-i.i
-          (omega arith) (omega arith) c.loop-i.invariant w.index-run-i.result (marked ∙ w.if-is-marked.true) w.index-run-i.is)
-      | else-is-marked w ↦
+          (omega arith) (omega arith) c.loop-i.invariant w.index-run-i.result (marked ∙ w.if-is_marked.true) w.index-run-i.is)
+      | else-is_marked w ↦
           rw (w.run-is, w.to-is)
           (keeps_no (noted_vertex c.args.marks.now) (marks_in c.args.marks.now) c.args.run.now c.loop-i.run c.loop-i.to c.loop-i.i
-          (omega arith) (omega arith) c.loop-i.invariant (marked ∙ w.if-is-marked.false))
+          (omega arith) (omega arith) c.loop-i.invariant (marked ∙ w.if-is_marked.false))
     ]
 
 pub returns : goal.returns

@@ -17,10 +17,10 @@ returns-then-from-eq0 c = record {
 pub loop-b-init : goal.loop-b-init
 loop-b-init c = ([], refl, omega arith, onto_none (steps_from Start c.args.from.now), sym (filled_none c.args.out.now))
 
-pub returns-in-default : goal.returns-in-default
-returns-in-default c =
+pub returns-in_default : goal.returns-in_default
+returns-in_default c =
     let from = c.args.from.now in
-    let none = turn_stops (steps_from Start from) from c.loop-b.stage c.loop-b.b-index c.loop-b.invariant.0 c.loop-b-test.true c.loop-b.invariant.3 c.in-default.ensures in
+    let none = turn_stops (steps_from Start from) from c.loop-b.stage c.loop-b.b-index c.loop-b.invariant.0 c.loop-b-test.true c.loop-b.invariant.3 c.in_default.ensures in
     record { answer = begun_err (spelled from) Unreadable c.args.out.now c.loop-b.out (Err Unreadable) (spelled_some from None c.if-from-eq0.false none) refl; exact = exact from }
 
 pub loop-b-preserved : goal.loop-b-preserved
@@ -37,11 +37,11 @@ loop-b-preserved c =
       kept_filled t.done c.loop-b.count r c.loop-b.out new code c.args.out.now c.keep-count.ensures c.loop-b.invariant.1 c.loop-b.invariant.4,
     )
 
-pub returns-in-default-stage : goal.returns-in-default-stage
-returns-in-default-stage c =
+pub returns-in_default-stage : goal.returns-in_default-stage
+returns-in_default-stage c =
     let from = c.args.from.now in
     let ends = turn_ends (steps_from Start from) from c.loop-b.stage c.loop-b.b-index c.loop-b.invariant.0 c.loop-b-test.false c.loop-b.invariant.3 in
-    let none = ends ∙ ap (onto c.loop-b.invariant.0) (ended_none c.loop-b.stage c.in-default-stage.not-Numbered) in
+    let none = ends ∙ ap (onto c.loop-b.invariant.0) (ended_none c.loop-b.stage c.in_default-stage.not-Numbered) in
     record { answer = begun_err (spelled from) Unreadable c.args.out.now c.loop-b.out (Err Unreadable) (spelled_some from None c.if-from-eq0.false none) refl; exact = exact from }
 
 pub returns : goal.returns

@@ -14,5 +14,5 @@ returns-in-100-to-999 c = record { value = sym (digits_3 c.args.n (omega arith) 
 pub returns-in-1000-to-9999 : goal.returns-in-1000-to-9999
 returns-in-1000-to-9999 c = record { value = sym (digits_4 c.args.n (omega arith) (omega arith)); few = omega arith }
 
-pub returns-in-default : goal.returns-in-default
-returns-in-default c = record { value = sym (digits_5 c.args.n (omega arith) (omega arith)); few = omega arith }
+pub returns-in_default : goal.returns-in_default
+returns-in_default c = record { value = sym (digits_5 c.args.n (omega arith) (omega arith)); few = omega arith }

@@ -14,8 +14,8 @@ loop-n-init c = (
   omega arith,
 )
 
-pub overflow-sub-place : goal.overflow-sub-place
-overflow-sub-place c = let some = decimal_nonempty c.loop-n.n (wide c.loop-n.n c.loop-n.invariant.4) in let at = c.loop-n.invariant.2 in omega arith
+pub overflow_sub-place : goal.overflow_sub-place
+overflow_sub-place c = let some = decimal_nonempty c.loop-n.n (wide c.loop-n.n c.loop-n.invariant.4) in let at = c.loop-n.invariant.2 in omega arith
 
 pub bounds-out-place : goal.bounds-out-place
 bounds-out-place c =

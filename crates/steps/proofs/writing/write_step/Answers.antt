@@ -9,6 +9,6 @@ returns c =
     let digits = decimal c.args.step.number in
     record {
       value = omega arith;
-      after = c.write-number.ensures.after ∙ ap (λ b. laid (at + 1) digits (set c.args.out.now at b)) c.to-letter.ensures ∙ laid_after at _ digits c.args.out.now (omega arith);
+      after = c.write_number.ensures.after ∙ ap (λ b. laid (at + 1) digits (set c.args.out.now at b)) c.to_letter.ensures ∙ laid_after at _ digits c.args.out.now (omega arith);
       short = omega arith;
     }

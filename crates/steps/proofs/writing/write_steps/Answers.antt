@@ -10,57 +10,57 @@ use Rattle.steps.specs.Spelling.{text_back}
 use Rattle.steps.proofs.Texts.{length_text, room_next, end_next, written_next, end_all, written_all}
 use Rattle.steps.proofs.writing.write_steps.Goals as goal
 
-pub returns-in-default : goal.returns-in-default
-returns-in-default c =
-    let none = nil_from_length c.args.code.now c.in-default.ensures.cases in
+pub returns-in_default : goal.returns-in_default
+returns-in_default c =
+    let none = nil_from_length c.args.code.now c.in_default.ensures.cases in
     let old = c.args.out.now in
     let P : List Step → Type 0 = λ code. (length (text_of code) ≤ length old) × (◌≡◌ {A = ℕ} 0 (length (text_of code))) × (old ≡ text_of code ++ drop (length (text_of code)) old) in
     record { answer = subst P (sym none) (omega arith, refl, refl); back = subst (λ code. spelled (text_of code) ≡ Ok code) (sym none) refl }
 
-pub write-step-at-requires : goal.write-step-at-requires
-write-step-at-requires c =
+pub write_step-at-requires : goal.write_step-at-requires
+write_step-at-requires c =
     let whole = length_text c.in-Some.first.now c.in-Some.rest.now in
     let room = c.fits.ensures.0 c.if-not-fits.false in
     omega arith
 
 pub loop-step-init : goal.loop-step-init
-loop-step-init c = (omega arith, laid_none c.write-step-at.result c.write-step-at.new.out, tt)
+loop-step-init c = (omega arith, laid_none c.write_step-at.result c.write_step-at.new.out, tt)
 
 pub bounds-out-at : goal.bounds-out-at
 bounds-out-at c =
     let first = c.in-Some.first.now in
-    let room = room_next first c.in-Some.rest.now c.loop-step.step-index c.write-step-at.result c.loop-step.at (length c.args.out.now) first c.loop-step-test.true c.write-step-at.ensures.value c.loop-step.invariant.0 (c.fits.ensures.0 c.if-not-fits.false) in
+    let room = room_next first c.in-Some.rest.now c.loop-step.step-index c.write_step-at.result c.loop-step.at (length c.args.out.now) first c.loop-step-test.true c.write_step-at.ensures.value c.loop-step.invariant.0 (c.fits.ensures.0 c.if-not-fits.false) in
     omega arith
 
-pub overflow-add-at : goal.overflow-add-at
-overflow-add-at c =
+pub overflow_add-at : goal.overflow_add-at
+overflow_add-at c =
     let first = c.in-Some.first.now in
-    let room = room_next first c.in-Some.rest.now c.loop-step.step-index c.write-step-at.result c.loop-step.at (length c.args.out.now) first c.loop-step-test.true c.write-step-at.ensures.value c.loop-step.invariant.0 (c.fits.ensures.0 c.if-not-fits.false) in
+    let room = room_next first c.in-Some.rest.now c.loop-step.step-index c.write_step-at.result c.loop-step.at (length c.args.out.now) first c.loop-step-test.true c.write_step-at.ensures.value c.loop-step.invariant.0 (c.fits.ensures.0 c.if-not-fits.false) in
     omega arith
 
-pub write-step-at-requires-in-loop-step : goal.write-step-at-requires-in-loop-step
-write-step-at-requires-in-loop-step c =
+pub write_step-at-requires-in-loop-step : goal.write_step-at-requires-in-loop-step
+write_step-at-requires-in-loop-step c =
     let first = c.in-Some.first.now in
     let rest = c.in-Some.rest.now in
     let room = c.fits.ensures.0 c.if-not-fits.false in
     let same = length-set c.loop-step.out c.loop-step.at 47 in
     let fits : length (text_of (first ∷ rest)) ≤ length (set c.loop-step.out c.loop-step.at 47) = omega arith in
-    room_next first rest c.loop-step.step-index c.write-step-at.result c.loop-step.at (length (set c.loop-step.out c.loop-step.at 47)) _ c.loop-step-test.true c.write-step-at.ensures.value c.loop-step.invariant.0 fits
+    room_next first rest c.loop-step.step-index c.write_step-at.result c.loop-step.at (length (set c.loop-step.out c.loop-step.at 47)) _ c.loop-step-test.true c.write_step-at.ensures.value c.loop-step.invariant.0 fits
 
 pub loop-step-preserved : goal.loop-step-preserved
 loop-step-preserved c =
     let h = c.loop-step-test.true in
     let rest = c.in-Some.rest.now in
     let i = c.loop-step.step-index in
-    let a = c.write-step-at.result in
-    let start = c.write-step-at.new.out in
+    let a = c.write_step-at.result in
+    let start = c.write_step-at.new.out in
     let first = c.in-Some.first.now in
     let fits = c.fits.ensures.0 c.if-not-fits.false in
     let whole = length_text first rest in
-    let room = room_next first rest i a c.loop-step.at (length c.args.out.now) first h c.write-step-at.ensures.value c.loop-step.invariant.0 fits in (
-      end_next rest i a c.loop-step.at c.write-step-at-in-loop-step.result _ h c.loop-step.invariant.0 c.write-step-at-in-loop-step.ensures.value,
-      written_next rest i a c.loop-step.at c.loop-step.out c.write-step-at-in-loop-step.new.out start _ h (omega arith) (omega arith) c.loop-step.invariant.0 c.loop-step.invariant.1 c.write-step-at-in-loop-step.ensures.after,
-      All-more Short rest i _ h c.loop-step.invariant.2 c.write-step-at-in-loop-step.ensures.short,
+    let room = room_next first rest i a c.loop-step.at (length c.args.out.now) first h c.write_step-at.ensures.value c.loop-step.invariant.0 fits in (
+      end_next rest i a c.loop-step.at c.write_step-at-in-loop-step.result _ h c.loop-step.invariant.0 c.write_step-at-in-loop-step.ensures.value,
+      written_next rest i a c.loop-step.at c.loop-step.out c.write_step-at-in-loop-step.new.out start _ h (omega arith) (omega arith) c.loop-step.invariant.0 c.loop-step.invariant.1 c.write_step-at-in-loop-step.ensures.after,
+      All-more Short rest i _ h c.loop-step.invariant.2 c.write_step-at-in-loop-step.ensures.short,
     )
 
 pub returns : goal.returns
@@ -71,12 +71,12 @@ returns c =
     let old = c.args.out.now in
     let i = c.loop-step.step-index in
     let h = c.loop-step-test.false in
-    let a = c.write-step-at.result in
+    let a = c.write_step-at.result in
     let P : List Step → Type 0 = λ code. (length (text_of code) ≤ length old) × (c.loop-step.at ≡ length (text_of code)) × (c.loop-step.out ≡ text_of code ++ drop (length (text_of code)) old) in
     let at_end : P (first ∷ rest) = (
       c.fits.ensures.0 c.if-not-fits.false,
-      end_all first rest i a c.loop-step.at h c.write-step-at.ensures.value c.loop-step.invariant.0,
-      written_all first rest i a c.loop-step.out c.write-step-at.new.out old h c.write-step-at.ensures.value c.loop-step.invariant.1 c.write-step-at.ensures.after,
+      end_all first rest i a c.loop-step.at h c.write_step-at.ensures.value c.loop-step.invariant.0,
+      written_all first rest i a c.loop-step.out c.write_step-at.new.out old h c.write_step-at.ensures.value c.loop-step.invariant.1 c.write_step-at.ensures.after,
     ) in
-    let fit : All Short (first ∷ rest) = (c.write-step-at.ensures.short, subst (λ s. All Short s) (take_all i rest h) c.loop-step.invariant.2) in
+    let fit : All Short (first ∷ rest) = (c.write_step-at.ensures.short, subst (λ s. All Short s) (take_all i rest h) c.loop-step.invariant.2) in
     record { answer = subst P (sym split) at_end; back = subst (λ code. spelled (text_of code) ≡ Ok code) (sym split) (text_back (first ∷ rest) fit) }

@@ -5,8 +5,8 @@ use Rattle.writing.specs.Records.{start_of}
 use Rattle.writing.proofs.Filling.{record_within, put_record, put_kept, length_record}
 use Rattle.writing.proofs.records.write_kth.Goals as goal
 
-pub slice-bounds-write-record-end : goal.slice-bounds-write-record-end
-slice-bounds-write-record-end g c =
+pub slice_bounds-write_record-end : goal.slice_bounds-write_record-end
+slice_bounds-write_record-end g c =
     record_within c.width-size.result c.args.k c.args.met (length c.args.out.now) c.requires.here
     (subst⁻¹ (λ w. 14 + c.args.met * (w + 8) ≤ length c.args.out.now) c.width-size.ensures c.requires.room)
 
@@ -20,7 +20,7 @@ returns g c =
     let rec = record_bytes bytes c.in-Some.vertex in
     let same = c.width-size.ensures in
     let short : length part ≤ width + 8 = omega (arith, length-take (from + (w + 8) - from) (drop from c.args.out.now), same) in
-    let put = put_record c.args.k w width c.args.out.now c.write-record.new.out part rec same short c.write-record.ensures in
+    let put = put_record c.args.k w width c.args.out.now c.write_record.new.out part rec same short c.write_record.ensures in
     let within = record_within width c.args.k c.args.met (length c.args.out.now) c.requires.here c.requires.room in
     record {
       kept =

@@ -16,11 +16,11 @@ loop-k-preserved g c =
     let w = g.S.WireSymbol.width in
     let up : start_of w c.loop-k.k ≤ start_of w (c.loop-k.k + 1) = (let e = next_start w c.loop-k.k in omega arith) in
     let behind = drop_later (start_of w c.loop-k.k) (start_of w (c.loop-k.k + 1)) c.loop-k.out c.args.out.now up c.loop-k.invariant.0 in (
-      c.write-kth.ensures.kept ∙ behind,
+      c.write_kth.ensures.kept ∙ behind,
       λ formed size.
           filled_more g.S.WireSymbol.bytes w g.met.S.WireSymbol.wired.long (g.B.Shelf.vertices c.args.shelf.now) c.args.seen.now c.args.met
-          c.loop-k.k c.args.out.now c.loop-k.out c.write-kth.new.out (omega (arith, c.requires.room)) (c.loop-k.invariant.1 formed size) behind
-          (c.write-kth.ensures.value formed size),
+          c.loop-k.k c.args.out.now c.loop-k.out c.write_kth.new.out (omega (arith, c.requires.room)) (c.loop-k.invariant.1 formed size) behind
+          (c.write_kth.ensures.value formed size),
     )
 
 pub returns : goal.returns

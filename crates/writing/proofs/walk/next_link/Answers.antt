@@ -5,19 +5,19 @@ use Rattle.writing.specs.Walks.{Passed}
 use Rattle.writing.proofs.Unwinding.{has_vertex}
 use Rattle.writing.proofs.walk.next_link.Goals as goal
 
-pub returns-in-default : goal.returns-in-default
-returns-in-default g c =
+pub returns-in_default : goal.returns-in_default
+returns-in_default g c =
     record {
       below = tt;
       value = λ formed.
           absurd (has_vertex (g.B.Shelf.vertices c.args.shelf.now) c.args.n (omega arith) c.requires.vertex.0
-          (unlooked (g.B.Shelf.vertices c.args.shelf.now) c.args.n (c.in-default.ensures.value formed)));
+          (unlooked (g.B.Shelf.vertices c.args.shelf.now) c.args.n (c.in_default.ensures.value formed)));
     }
 
-pub returns-then-is-unmet : goal.returns-then-is-unmet
-returns-then-is-unmet g c =
+pub returns-then-is_unmet : goal.returns-then-is_unmet
+returns-then-is_unmet g c =
     let low = c.in-Some.ensures.below in
-    let new = subst (MetOrNot c.args.seen.now c.args.met c.in-Some.zero) c.if-is-unmet.true c.is-unmet.ensures in
+    let new = subst (MetOrNot c.args.seen.now c.args.met c.in-Some.zero) c.if-is_unmet.true c.is_unmet.ensures in
     record {
       below = (low.1, new.0, new.1);
       value = λ formed.
@@ -25,11 +25,11 @@ returns-then-is-unmet g c =
           (l.0, l.1, inl (ap (λ (t : g.row.S.Denot × ℕ × ℕ). t.1) l.2));
     }
 
-pub returns-then-is-unmet-2 : goal.returns-then-is-unmet-2
-returns-then-is-unmet-2 g c =
+pub returns-then-is_unmet-2 : goal.returns-then-is_unmet-2
+returns-then-is_unmet-2 g c =
     let low = c.in-Some.ensures.below in
-    let old = subst (MetOrNot c.args.seen.now c.args.met c.in-Some.zero) c.if-is-unmet.false c.is-unmet.ensures in
-    let new = subst (MetOrNot c.args.seen.now c.args.met c.in-Some.one) c.if-is-unmet-2.true c.is-unmet-2.ensures in
+    let old = subst (MetOrNot c.args.seen.now c.args.met c.in-Some.zero) c.if-is_unmet.false c.is_unmet.ensures in
+    let new = subst (MetOrNot c.args.seen.now c.args.met c.in-Some.one) c.if-is_unmet-2.true c.is_unmet-2.ensures in
     record {
       below = (low.2, new.0, new.1);
       value = λ formed.
@@ -41,8 +41,8 @@ returns-then-is-unmet-2 g c =
 
 pub returns : goal.returns
 returns g c =
-    let old = subst (MetOrNot c.args.seen.now c.args.met c.in-Some.zero) c.if-is-unmet.false c.is-unmet.ensures in
-    let new = subst (MetOrNot c.args.seen.now c.args.met c.in-Some.one) c.if-is-unmet-2.false c.is-unmet-2.ensures in
+    let old = subst (MetOrNot c.args.seen.now c.args.met c.in-Some.zero) c.if-is_unmet.false c.is_unmet.ensures in
+    let new = subst (MetOrNot c.args.seen.now c.args.met c.in-Some.one) c.if-is_unmet-2.false c.is_unmet-2.ensures in
     record {
       below = tt;
       value = λ formed.

@@ -23,7 +23,7 @@ loop-next-smaller g c = c.in-Some.ensures.walking.1
 
 pub returns : goal.returns
 returns g c =
-    let ends = c.in-default.ensures.walking in
+    let ends = c.in_default.ensures.walking in
     let was = c.loop-next.invariant.0 in
     record {
       sparse = subst⁻¹ (λ s. (c.loop-next.course.met ≤ length s) × Sparse s c.loop-next.course.met) ends.1 (was.0, was.1);

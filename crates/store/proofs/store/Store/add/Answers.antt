@@ -10,9 +10,9 @@ pub returns-in-Ok : goal.returns-in-Ok
 returns-in-Ok g c =
     record {
       answer = λ travel st.
-          let list = passed _ _ c.in-ok-check-list.ensures in
-          let code = passed _ _ c.in-ok-check-code.ensures in
-          let work = passed _ _ c.in-ok-check-work.ensures in
+          let list = passed _ _ c.in_ok-check_list.ensures in
+          let code = passed _ _ c.in_ok-check_code.ensures in
+          let work = passed _ _ c.in_ok-check_work.ensures in
           let stands = run_stands g.S.Symbol.before g.met.S.Symbol.ordered _ travel st.run in
           adding g.S.Symbol.before (g.B.Shelf.capacity c.args.self.now.shelf)
           (state (g.B.Shelf.vertices c.args.self.now.shelf) (g.R.RecallTable.table c.args.self.now.recall))
@@ -26,9 +26,9 @@ pub returns-in-Err : goal.returns-in-Err
 returns-in-Err g c =
     record {
       answer = λ travel st.
-          let list = passed _ _ c.in-ok-check-list.ensures in
-          let code = passed _ _ c.in-ok-check-code.ensures in
-          let work = passed _ _ c.in-ok-check-work.ensures in
+          let list = passed _ _ c.in_ok-check_list.ensures in
+          let code = passed _ _ c.in_ok-check_code.ensures in
+          let work = passed _ _ c.in_ok-check_work.ensures in
           let stands = run_stands g.S.Symbol.before g.met.S.Symbol.ordered _ travel st.run in
           adding g.S.Symbol.before (g.B.Shelf.capacity c.args.self.now.shelf)
           (state (g.B.Shelf.vertices c.args.self.now.shelf) (g.R.RecallTable.table c.args.self.now.recall))

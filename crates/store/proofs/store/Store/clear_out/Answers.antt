@@ -10,8 +10,8 @@ pub returns : goal.returns
 returns g c =
     record {
       answer = λ travel st.
-          let keep = all_pass (g.B.Shelf.vertices c.args.self.now.shelf) 0 c.args.keep.now (passed_by _ c.in-ok-check-keep.ensures) in
-          let work = passed _ _ c.in-ok-check-work.ensures in
+          let keep = all_pass (g.B.Shelf.vertices c.args.self.now.shelf) 0 c.args.keep.now (passed_by _ c.in_ok-check_keep.ensures) in
+          let work = passed _ _ c.in_ok-check_work.ensures in
           let stands = run_stands g.S.Symbol.before g.met.S.Symbol.ordered _ travel st.run in
           clearing g.S.Symbol.before (g.B.Shelf.capacity c.args.self.now.shelf)
           (state (g.B.Shelf.vertices c.args.self.now.shelf) (g.R.RecallTable.table c.args.self.now.recall))
@@ -21,10 +21,10 @@ returns g c =
       size = c.clear.ensures.size;
     }
 
-pub returns-in-err-check-keep : goal.returns-in-err-check-keep
-returns-in-err-check-keep g c =
-    let p = err_from_is_err_and c.from-residual.result c.from-residual.ensures.1 in
-    let e = refused_by _ _ c.in-err-check-keep.ensures in
+pub returns-in_err-check_keep : goal.returns-in_err-check_keep
+returns-in_err-check_keep g c =
+    let p = err_from_is_err_and c.from_residual.result c.from_residual.ensures.1 in
+    let e = refused_by _ _ c.in_err-check_keep.ensures in
     rw (p.1, p.2)
     record {
       answer = λ travel st. (
@@ -36,11 +36,11 @@ returns-in-err-check-keep g c =
       size = refl;
     }
 
-pub returns-in-err-check-work : goal.returns-in-err-check-work
-returns-in-err-check-work g c =
-    let p = err_from_is_err_and c.from-residual-in-err-check-work.result c.from-residual-in-err-check-work.ensures.1 in
-    let keep = all_pass (g.B.Shelf.vertices c.args.self.now.shelf) 0 c.args.keep.now (passed_by _ c.in-ok-check-keep.ensures) in
-    let e = refused_by _ _ c.in-err-check-work.ensures in
+pub returns-in_err-check_work : goal.returns-in_err-check_work
+returns-in_err-check_work g c =
+    let p = err_from_is_err_and c.from_residual-in_err-check_work.result c.from_residual-in_err-check_work.ensures.1 in
+    let keep = all_pass (g.B.Shelf.vertices c.args.self.now.shelf) 0 c.args.keep.now (passed_by _ c.in_ok-check_keep.ensures) in
+    let e = refused_by _ _ c.in_err-check_work.ensures in
     rw (p.1, p.2)
     record {
       answer = λ travel st. (

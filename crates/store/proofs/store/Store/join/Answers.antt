@@ -11,10 +11,10 @@ pub returns-in-Ok : goal.returns-in-Ok
 returns-in-Ok g c =
     record {
       answer = λ travel st.
-          let first = passed _ _ c.in-ok-check-list.ensures in
-          let second = passed _ _ c.in-ok-check-list-2.ensures in
+          let first = passed _ _ c.in_ok-check_list.ensures in
+          let second = passed _ _ c.in_ok-check_list-2.ensures in
           let rule = c.in-Some.ensures in
-          let work = passed _ _ c.in-ok-check-work.ensures in
+          let work = passed _ _ c.in_ok-check_work.ensures in
           let stands = run_stands g.S.Symbol.before g.met.S.Symbol.ordered _ travel st.run in
           joined g.S.Symbol.before (g.B.Shelf.capacity c.args.self.now.shelf)
           (state (g.B.Shelf.vertices c.args.self.now.shelf) (g.R.RecallTable.table c.args.self.now.recall))
@@ -29,10 +29,10 @@ pub returns-in-Err : goal.returns-in-Err
 returns-in-Err g c =
     record {
       answer = λ travel st.
-          let first = passed _ _ c.in-ok-check-list.ensures in
-          let second = passed _ _ c.in-ok-check-list-2.ensures in
+          let first = passed _ _ c.in_ok-check_list.ensures in
+          let second = passed _ _ c.in_ok-check_list-2.ensures in
           let rule = c.in-Some.ensures in
-          let work = passed _ _ c.in-ok-check-work.ensures in
+          let work = passed _ _ c.in_ok-check_work.ensures in
           let stands = run_stands g.S.Symbol.before g.met.S.Symbol.ordered _ travel st.run in
           joined g.S.Symbol.before (g.B.Shelf.capacity c.args.self.now.shelf)
           (state (g.B.Shelf.vertices c.args.self.now.shelf) (g.R.RecallTable.table c.args.self.now.recall))

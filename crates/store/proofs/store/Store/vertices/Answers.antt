@@ -5,7 +5,7 @@ use Rattle.store.proofs.store.Store.vertices.Goals as goal
 
 pub returns : goal.returns
 returns g c travel st =
-    let list = passed _ _ c.in-ok-check-list.ensures in
-    let work = passed _ _ c.in-ok-check-work.ensures in
+    let list = passed _ _ c.in_ok-check_list.ensures in
+    let work = passed _ _ c.in_ok-check_work.ensures in
     let stands = run_stands g.S.Symbol.before g.met.S.Symbol.ordered _ travel st.run in
     (list.1 _ ∙ work.1 None, c.vertices.ensures stands.sound.formed)

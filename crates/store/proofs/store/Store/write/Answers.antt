@@ -11,8 +11,8 @@ pub returns-in-Ok : goal.returns-in-Ok
 returns-in-Ok g c =
     record {
       answer = λ t st.
-          let list = passed _ _ c.in-ok-check-list.ensures in
-          let work = passed _ _ c.in-ok-check-work.ensures in
+          let list = passed _ _ c.in_ok-check_list.ensures in
+          let work = passed _ _ c.in_ok-check_work.ensures in
           let stands = run_stands g.S.Symbol.before g.met.S.Symbol.ordered _ t st.run in
           writes_ok g.S.Symbol.before (g.B.Shelf.capacity c.args.self.now.shelf) (travel g.S.WireSymbol.kind g.S.WireSymbol.width g.S.WireSymbol.bytes g.S.WireSymbol.reads)
           (state (g.B.Shelf.vertices c.args.self.now.shelf) (g.R.RecallTable.table c.args.self.now.recall))
@@ -24,8 +24,8 @@ pub returns-in-Err : goal.returns-in-Err
 returns-in-Err g c =
     record {
       answer = λ t st.
-          let list = passed _ _ c.in-ok-check-list.ensures in
-          let work = passed _ _ c.in-ok-check-work.ensures in
+          let list = passed _ _ c.in_ok-check_list.ensures in
+          let work = passed _ _ c.in_ok-check_work.ensures in
           let stands = run_stands g.S.Symbol.before g.met.S.Symbol.ordered _ t st.run in
           writes_not g.S.Symbol.before (g.B.Shelf.capacity c.args.self.now.shelf) (travel g.S.WireSymbol.kind g.S.WireSymbol.width g.S.WireSymbol.bytes g.S.WireSymbol.reads)
           (state (g.B.Shelf.vertices c.args.self.now.shelf) (g.R.RecallTable.table c.args.self.now.recall))
@@ -33,8 +33,8 @@ returns-in-Err g c =
       alike = written_alike g.S.Symbol.before g.met.S.Symbol.ordered _ g.met.S.WireSymbol.wired;
     }
 
-pub returns-in-err-check-list : goal.returns-in-err-check-list
-returns-in-err-check-list g c = record { answer = search rules; alike = written_alike g.S.Symbol.before g.met.S.Symbol.ordered _ g.met.S.WireSymbol.wired }
+pub returns-in_err-check_list : goal.returns-in_err-check_list
+returns-in_err-check_list g c = record { answer = search rules; alike = written_alike g.S.Symbol.before g.met.S.Symbol.ordered _ g.met.S.WireSymbol.wired }
 
-pub returns-in-err-check-work : goal.returns-in-err-check-work
-returns-in-err-check-work g c = record { answer = search rules; alike = written_alike g.S.Symbol.before g.met.S.Symbol.ordered _ g.met.S.WireSymbol.wired }
+pub returns-in_err-check_work : goal.returns-in_err-check_work
+returns-in_err-check_work g c = record { answer = search rules; alike = written_alike g.S.Symbol.before g.met.S.Symbol.ordered _ g.met.S.WireSymbol.wired }
