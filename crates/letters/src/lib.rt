@@ -4,7 +4,8 @@
 // and a slash are letters like any other, and nothing is trimmed. Reading looks at each byte twice, writing at each letter once.
 #![tactic(auto)]
 
-ghost use Rattle.std.specs.Prelude.{◌≡◌, ◌*◌, ◌%◌, ◌^◌, [], ◌∷◌, Ok, Decides, OnOk, nat_lt, slice_index, refl};
+ghost use Rattle.std.specs.Prelude.{◌≡◌, ◌*◌, ◌%◌, ◌^◌, ◌==◌, ◌↔◌, true, [], ◌∷◌, Ok, OnOk, nat_lt, slice_index, refl};
+ghost use Rattle.std.specs.Ordering.{on};
 ghost use Rattle.letters.specs.Letters.{byte_of, letter_of};
 ghost use Rattle.letters.specs.Codes.{spelled, text_of};
 ghost use Rattle.texts.specs.Texts.{Begun, WrittenTo};
@@ -237,12 +238,15 @@ impl Letter {
     }
 }
 
-impl PartialEq<Letter> for Letter {
-    ghost equals = { λ a b r. Decides r (a ≡ b) };
+impl PartialEq for Letter {
+    ghost eq = { on byte_of ◌==◌ };
 
     ghost laws = { Keys.partial_equiv_from_equiv (Prim.search (comparing, rules)) };
 
-    fn eq(&self, other: &Letter) -> bool {
+    fn eq(&self, other: &Letter) -> bool
+        ensures value { result ≡ on byte_of ◌==◌ self.now other.now }
+        ensures same { (result ≡ true) ↔ (self.now ≡ other.now) }
+    {
         same(*self, *other)
     }
 }

@@ -23,8 +23,8 @@ returns-in_default g c =
       size = refl;
     }
 
-pub returns-in_err-number : goal.returns-in_err-number
-returns-in_err-number g c =
+pub returns-in_err-number-in-Inner : goal.returns-in_err-number-in-Inner
+returns-in_err-number-in-Inner g c =
     record {
       falls = at_err (λ r. ComesDown c.args.work.now (answered c.args.height c.args.n) c.args.work.now r) c.from_residual.result c.from_residual.ensures.0 (λ e. tt);
       turns = λ ready old goal R.
@@ -33,7 +33,7 @@ returns-in_err-number g c =
           (λ e.
           turn_full g.S.Symbol.before g.met.S.Symbol.ordered old (number_of c.args.rule) goal _ _ c.args.work.now c.args.height c.args.n c.requires.some c.read_frame-frame.result c.read_frame-frame.ensures R
           c.in-Some.split (sym (c.in-Some.ensures.value R.sound.formed)) c.in-Inner.zero (g.B.Shelf.capacity c.args.shelf.now) c.in-Inner.is (g.B.Shelf.vertices c.couple.new.shelf)
-          _ (c.in_err-number.ensures.answer ready));
+          _ (c.in_err-number-in-Inner.ensures.answer ready));
       ready = c.couple.ensures.ready;
       size = c.couple.ensures.size;
     }
@@ -55,15 +55,15 @@ returns-in-Outer g c =
       size = refl;
     }
 
-pub returns-in_ok-number : goal.returns-in_ok-number
-returns-in_ok-number g c =
-    let near = nearer_pop c.args.work.now c.args.height c.args.n c.requires.fits c.requires.some c.in_ok-number.number in
+pub returns-in_ok-number-in-Inner : goal.returns-in_ok-number-in-Inner
+returns-in_ok-number-in-Inner g c =
+    let near = nearer_pop c.args.work.now c.args.height c.args.n c.requires.fits c.requires.some c.in_ok-number-in-Inner.number in
     record {
       falls = (near.fits, near.falls);
       turns = λ ready old goal R.
           turn_couple g.S.Symbol.before g.met.S.Symbol.ordered old (number_of c.args.rule) goal _ _ c.args.work.now c.args.height c.args.n c.requires.some c.read_frame-frame.result c.read_frame-frame.ensures R
           c.in-Some.split (sym (c.in-Some.ensures.value R.sound.formed)) c.in-Inner.zero (g.B.Shelf.capacity c.args.shelf.now) c.in-Inner.is (g.B.Shelf.vertices c.couple.new.shelf)
-          c.in_ok-number.number (g.R.RecallTable.table c.tell.new.self) (c.in_ok-number.ensures.answer ready) (subst (λ (q : Question). Told (g.R.RecallTable.table c.args.recall.now) q c.in_ok-number.number (g.R.RecallTable.table c.tell.new.self)) c.question.ensures c.tell.ensures);
+          c.in_ok-number-in-Inner.number (g.R.RecallTable.table c.tell.new.self) (c.in_ok-number-in-Inner.ensures.answer ready) (subst (λ (q : Question). Told (g.R.RecallTable.table c.args.recall.now) q c.in_ok-number-in-Inner.number (g.R.RecallTable.table c.tell.new.self)) c.question.ensures c.tell.ensures);
       ready = c.couple.ensures.ready;
       size = c.couple.ensures.size;
     }

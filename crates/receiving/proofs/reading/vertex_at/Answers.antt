@@ -28,7 +28,7 @@ returns-in-Ok g c =
     let t = travel w.kind w.width w.bytes w.reads in
     let l = right_links t (c.args.n - 2 + 2) _ c.in-Ok.vertex (sym c.in-Ok.ensures) in
     let lz = l.zero_below in
-    let lo = l.one-below in
+    let lo = l.one_below in
     let h : (c.args.n - 2 + 1) * (c.width.result + 8) ≤ length c.args.records.now = omega arith in
     record {
       below = (omega arith, omega arith, omega arith);
