@@ -1,4 +1,4 @@
-use Rattle.std.proofs.Common.{◌+◌, take, sym, arith, rules}
+use Rattle.std.proofs.Common.{◌+◌, take, arith, rules}
 use Rattle.std.proofs.lemmas.List.{length-take-le}
 use Rattle.std.proofs.lemmas.Bool.{both_ways, false≢true}
 use Rattle.memory.specs.Shelves.{marks_in}

@@ -1,4 +1,4 @@
-use Rattle.std.proofs.Common.{◌≡◌, ◌<◌, ◌≤◌, min, length, refl, arith}
+use Rattle.std.proofs.Common.{min, length, refl, arith}
 use Rattle.std.proofs.lemmas.List.{length-set}
 use Rattle.row_shelf.proofs.Rows.{one_more, used_length}
 use Rattle.row_shelf.proofs.run.append.Goals as goal
