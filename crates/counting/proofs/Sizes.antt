@@ -5,7 +5,7 @@ use mir.Val.{bool_byte}
 use lib.ListN.{length-map}
 use Rattle.std.specs.Option.{option_map}
 use Rattle.symbols.specs.Order.{Order}
-use Rattle.ledger.specs.Lists.{Codes, blank, begun}
+use Rattle.ledger.specs.Lists.{Codes, begun}
 use Rattle.ledger.specs.declared.Vertex.{Vertex}
 use Rattle.ledger.specs.Diagrams.{look, parts, Good, Formed}
 use Rattle.ledger.specs.Ledger.{codes}

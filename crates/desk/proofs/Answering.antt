@@ -1,5 +1,5 @@
 -- The answer line of a reply, and a text that is put where there is room.
-use Rattle.std.proofs.Common.{◌≡◌, ℕ, ◌+◌, ◌-◌, ◌<◌, ◌≤◌, min, true, false, ◌⊎◌, List, ◌++◌, length, take, Ok, Err, Result, sym, refl, ap, ◌∙◌, inl, ⊎_elim, arith}
+use Rattle.std.proofs.Common.{◌≡◌, ℕ, ◌+◌, ◌-◌, ◌<◌, ◌≤◌, min, true, false, List, ◌++◌, length, take, Ok, Err, Result, sym, refl, ap, ◌∙◌, inl, ⊎_elim, arith}
 use lib.Seq.{take-append-add}
 use Rattle.std.proofs.lemmas.List.{take_all, take_at, length-take-le}
 use Rattle.std.proofs.lemmas.Bool.{cases_lt}

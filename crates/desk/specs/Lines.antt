@@ -1,5 +1,5 @@
 -- Lines cut out of chunks.
-use Rattle.std.specs.Prelude.{◌≡◌, ℕ, ◌+◌, ◌<◌, List, ◌++◌, length, take, drop, Some, None, Option, ◌≢◌, slice_index}
+use Rattle.std.specs.Prelude.{◌≡◌, ℕ, ◌<◌, List, ◌++◌, length, take, drop, Some, None, Option, ◌≢◌, slice_index}
 
 -- no line feed stands before place n
 abbrev pub Plain : List ℕ → ℕ → Type 0

@@ -1,5 +1,5 @@
 -- What a recall table's functions answer.
-use Rattle.std.specs.Prelude.{◌≡◌, ℕ, ◌⊎◌, List, Some, None, Option}
+use Rattle.std.specs.Prelude.{◌≡◌, ℕ, ◌⊎◌, List, Some, Option}
 use mathlib.Core.List.{Memᴰ}
 use Rattle.memory.specs.declared.recall.Question.{Question}
 

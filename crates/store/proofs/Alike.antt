@@ -1,19 +1,19 @@
 -- What two stores write of two lists is equal exactly when the lists have the same codes.
-use Rattle.std.proofs.Common.{◌≡◌, ℕ, ◌+◌, ◌≤◌, Bool, false, ltb, ◌↔◌, List, [], ◌∷◌, ◌++◌, length, take, drop, Some, None, Ok, Err, Option, Result, sym, refl, ap, ◌∙◌, subst, arith}
+use Rattle.std.proofs.Common.{◌≡◌, ℕ, ◌+◌, ◌≤◌, Bool, ltb, List, ◌++◌, length, take, drop, Some, None, Ok, Err, Option, sym, refl, ap, ◌∙◌, arith}
 use Rattle.std.proofs.lemmas.List.{take_at, length-append}
 use Rattle.std.proofs.lemmas.Bool.{le-ltb, lt-ltb}
 use Rattle.symbols.specs.Order.{Order}
 use Rattle.symbols.specs.Wire.{Travel, WireLaws}
-use Rattle.ledger.specs.Diagrams.{Good, SameCodes}
+use Rattle.ledger.specs.Diagrams.{Good}
 use Rattle.ledger.specs.Ledger.{codes}
 use Rattle.memory.specs.declared.work.Place.{Place}
 use Rattle.ledger.proofs.Bytes.{dispatches_alike}
 use Rattle.wire.specs.Written.{written}
 use Rattle.store.specs.declared.fault.Fault.{Fault}
 use Rattle.store.specs.declared.fault.Fault.TheVariants.{NoSuchList, ShortOutput}
-use Rattle.store.specs.State.{State, Checked, check, check_lists, check_work}
+use Rattle.store.specs.State.{State, Checked, check}
 use Rattle.store.specs.Calls.{Writes, Written, count_checks}
-use Rattle.store.specs.Run.{Run, WrittenAlike}
+use Rattle.store.specs.Run.{WrittenAlike}
 use Rattle.writing.specs.Writes as writing
 use Rattle.writing.specs.declared.ShortOutput.{ShortOutput as ShortOut}
 use Rattle.store.proofs.Checks.{good_list, then_comes, refuses}

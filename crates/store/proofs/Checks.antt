@@ -1,11 +1,10 @@
 -- Checks that pass, and the refusal of one that fails.
-use Rattle.std.proofs.Common.{◌≡◌, ℕ, ◌+◌, ◌^◌, ◌<◌, ◌≤◌, Bool, true, false, ltb, leb, List, [], ◌∷◌, length, Some, None, Ok, Err, Option, Result, sym, refl, ap, ◌∙◌, subst, arith}
+use Rattle.std.proofs.Common.{◌≡◌, ℕ, ◌+◌, ◌^◌, ◌<◌, ◌≤◌, Bool, true, false, ltb, leb, List, length, Some, None, Ok, Err, Option, Result, sym, refl, ap, ◌∙◌, arith}
 use Rattle.std.proofs.lemmas.Bool.{ltb-false, le-ltb, lt-leb, le-leb}
 use Rattle.ledger.specs.declared.Vertex.{Vertex}
 use Rattle.ledger.specs.Diagrams.{Good}
-use Rattle.memory.specs.declared.work.Place.{Place}
 use Rattle.store.specs.declared.fault.Fault.{Fault}
-use Rattle.store.specs.State.{check, check_lists, check_code, check_work, answered, Checked}
+use Rattle.store.specs.State.{check, answered, Checked}
 
 -- what a check that was passed says: it did not fail, and those behind it answer
 pub passed : (fails : Bool) (fault : Fault) → ◌≡◌ {A = Result (Unit {0}) Fault} (Ok tt) (answered (check fails fault None) tt) →

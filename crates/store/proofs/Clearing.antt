@@ -1,13 +1,12 @@
 -- Clearing out keeps a store standing.
-use Rattle.std.proofs.Common.{◌≡◌, ℕ, zero, suc, ◌+◌, ◌<◌, ◌≤◌, Bool, true, false, ◌↔◌, List, [], ◌∷◌, ◌++◌, length, get_or, Some, None, Option, sym, refl, ap, ◌∙◌, subst, arith}
-use mathlib.Core.Path.{subst⁻¹}
+use Rattle.std.proofs.Common.{◌≡◌, ℕ, zero, suc, ◌<◌, ◌≤◌, Bool, true, false, List, [], ◌∷◌, length, get_or, Some, sym, refl, ap, ◌∙◌, subst, arith}
 use mathlib.Core.List.{Memᴰ}
 use lib.ListN.{length-map}
 use Rattle.symbols.specs.Order.{Order}
-use Rattle.ledger.specs.Lists.{Codes, none}
+use Rattle.ledger.specs.Lists.{none}
 use Rattle.ledger.specs.declared.Vertex.{Vertex}
-use Rattle.ledger.specs.Diagrams.{look, Good, Sound, Reached, itself, over_zero, over_one}
-use Rattle.ledger.specs.Ledger.{lists, codes, listed}
+use Rattle.ledger.specs.Diagrams.{look, Sound, Reached, itself, over_zero, over_one}
+use Rattle.ledger.specs.Ledger.{lists}
 use Rattle.ledger.specs.Gather.{keep, gather, renumbered, Keeps, Marked, Whole}
 use Rattle.ledger.proofs.Reading.{some_same}
 use Rattle.ledger.proofs.Canon.{Kind, is_0, is_1, is_vertex, kind, vertex_good}

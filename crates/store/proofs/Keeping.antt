@@ -1,5 +1,5 @@
 -- The checks of a keep-list, number by number, and the step of a clear-out.
-use Rattle.std.proofs.Common.{◌≡◌, ℕ, suc, ◌+◌, ◌<◌, ◌≤◌, Bool, true, false, ltb, ◌⊎◌, List, [], ◌∷◌, length, get_or, drop, Some, None, Ok, Err, Option, Result, sym, refl, ap, ◌∙◌, inl, inr, add-one, arith}
+use Rattle.std.proofs.Common.{◌≡◌, ℕ, suc, ◌+◌, ◌<◌, ◌≤◌, Bool, true, false, ltb, List, [], ◌∷◌, length, get_or, drop, Some, None, Ok, Err, Option, Result, sym, refl, ap, ◌∙◌, add-one, arith}
 use mathlib.Core.List.{Memᴰ}
 use Rattle.std.proofs.lemmas.List.{drop_more, drop_all}
 use Rattle.std.proofs.lemmas.Bool.{le-ltb, lt-ltb}
@@ -11,7 +11,7 @@ use Rattle.clearing.specs.Cleared.{AllGood, Clears}
 use Rattle.memory.specs.declared.work.Place.{Place}
 use Rattle.store.specs.declared.fault.Fault.{Fault}
 use Rattle.store.specs.declared.fault.Fault.TheVariants.{NoSuchList}
-use Rattle.store.specs.State.{State, Forgotten, check, check_lists, check_work, answered, Checked}
+use Rattle.store.specs.State.{State, Forgotten, check, check_lists, check_work, answered}
 use Rattle.store.specs.Calls.{ClearsOut, ClearedOut}
 use Rattle.store.specs.Run.{Stands, clears_out}
 use Rattle.store.proofs.Checks.{good_list, then_comes, refuses}

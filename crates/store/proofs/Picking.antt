@@ -1,5 +1,5 @@
 -- What a pick answers, once its checks have passed.
-use Rattle.std.proofs.Common.{◌≡◌, ℕ, Bool, List, length, None, Ok, Err, Option, refl, ◌∙◌}
+use Rattle.std.proofs.Common.{◌≡◌, ℕ, Bool, List, None, Ok, Err, Option, refl, ◌∙◌}
 use Rattle.ledger.specs.Ledger.{codes}
 use Rattle.ledger.specs.Ordered.{ordered}
 use Rattle.memory.specs.declared.work.Place.{Place}

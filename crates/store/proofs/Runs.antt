@@ -1,12 +1,11 @@
 -- Every run leads to a store that stands, so in every run a list's number is the list.
-use Rattle.std.proofs.Common.{◌≡◌, ℕ, ◌+◌, ◌<◌, ◌≤◌, Bool, true, false, ltb, ◌⊎◌, List, [], ◌∷◌, length, Some, None, Ok, Err, Option, Result, sym, refl, ap, ◌∙◌, subst, ap₂, inl, inr, arith}
+use Rattle.std.proofs.Common.{◌≡◌, ℕ, ◌+◌, ◌≤◌, Bool, ltb, ◌⊎◌, List, [], length, Some, None, Ok, Err, Option, Result, refl, ap, inl, inr, arith}
 use mathlib.Core.Path.{subst⁻¹}
 use Rattle.symbols.specs.Order.{Order}
 use Rattle.symbols.specs.Wire.{Travel}
 use Rattle.ledger.specs.Lists.{Codes, Proper}
 use Rattle.ledger.specs.declared.Vertex.{Vertex}
-use Rattle.ledger.specs.Diagrams.{Good, Sound}
-use Rattle.ledger.specs.Ledger.{codes, down}
+use Rattle.ledger.specs.Ledger.{codes}
 use Rattle.ledger.specs.Operations.{takes, join}
 use Rattle.ledger.proofs.Reading.{none_some}
 use Rattle.ledger.proofs.Canon.{same_number, number_same}
@@ -18,7 +17,7 @@ use Rattle.memory.specs.declared.work.Place.{Place}
 use Rattle.joining.specs.Recalled.{RightEntry}
 use Rattle.counting.specs.Picks.{Short}
 use Rattle.store.specs.declared.fault.Fault.{Fault}
-use Rattle.store.specs.State.{State, Forgotten, Checked, check, check_lists, check_work}
+use Rattle.store.specs.State.{State, Forgotten, Checked, check_lists, check_work}
 use Rattle.store.specs.Calls.{Joins, JoinedDown, ClearsOut, ClearedOut}
 use Rattle.store.specs.Run.{Run, fitted_out, adds, removes, joins, clears_out, unders, holds, looks, counts_codes, counts_vertices, picks, writes, NumberIsList}
 use Rattle.store.proofs.Checks.{good_list}

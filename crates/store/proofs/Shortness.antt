@@ -1,11 +1,10 @@
 -- Codes stay within 64 symbols: what is laid down brings no longer code than it has.
-use Rattle.std.proofs.Common.{◌≡◌, ℕ, zero, suc, ◌+◌, ◌<◌, ◌≤◌, Bool, true, false, ◌⊎◌, List, [], ◌∷◌, ◌++◌, length, get_or, sym, refl, ap, ◌∙◌, subst, inl, inr, arith}
-use mathlib.Core.Path.{subst⁻¹}
+use Rattle.std.proofs.Common.{◌≡◌, ℕ, zero, suc, ◌<◌, ◌≤◌, Bool, true, ◌⊎◌, List, ◌∷◌, length, get_or, sym, refl, ap, subst, inl, inr, arith}
 use Rattle.symbols.specs.Order.{Order}
 use Rattle.ledger.specs.Lists.{Codes, none, blank, begun, Member, Proper, Part}
 use Rattle.ledger.specs.declared.Vertex.{Vertex}
 use Rattle.ledger.specs.Diagrams.{Good, Sound}
-use Rattle.ledger.specs.Ledger.{listed, number, lay, list_in, lists, codes, down}
+use Rattle.ledger.specs.Ledger.{listed, number, lay, lists, codes, down}
 use Rattle.counting.specs.Picks.{Short}
 use Rattle.ledger.proofs.Rows.{listed_get_or, known_held, number_good, list_number, lay_ledger}
 use Rattle.ledger.proofs.Drawn.{Pictured, pictured, lists_vertices_of}

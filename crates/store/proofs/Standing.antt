@@ -1,16 +1,13 @@
 -- What every run keeps: sound vertices within the capacity, codes within 64 symbols, and a right recall table.
-use Rattle.std.proofs.Common.{◌≡◌, ℕ, zero, suc, ◌+◌, ◌*◌, ◌<◌, ◌≤◌, Bool, true, false, ltb, ◌⊎◌, ◌↔◌, List, [], ◌∷◌, ◌++◌, map, length, get_or, Some, None, Ok, Err, Option, Result, sym, refl, ap, ◌∙◌, subst, ap₂, inl, inr, arith, length-append}
+use Rattle.std.proofs.Common.{◌≡◌, ℕ, ◌+◌, ◌≤◌, Bool, true, false, ltb, ◌⊎◌, List, length, Some, None, Ok, Err, Option, Result, sym, refl, ap, ◌∙◌, ap₂, inl, inr, arith, length-append}
 use mathlib.Core.Path.{subst⁻¹}
-use mathlib.Core.List.{Memᴰ}
 use Rattle.std.proofs.lemmas.Bool.{ltb-false}
 use Rattle.symbols.specs.Order.{Order}
-use Rattle.symbols.specs.Wire.{Travel}
-use Rattle.ledger.specs.Lists.{Codes, none, blank, begun, Member, Proper}
+use Rattle.ledger.specs.Lists.{Codes, Proper}
 use Rattle.ledger.specs.declared.Vertex.{Vertex}
-use Rattle.ledger.specs.Diagrams.{Good, Sound, SameCodes, Reached, Counts, IsDiagram}
+use Rattle.ledger.specs.Diagrams.{Good, Sound}
 use Rattle.ledger.specs.Ledger.{lay, list_in, lists, codes, down}
-use Rattle.ledger.specs.Operations.{has, takes, join, single, added, removed}
-use Rattle.ledger.specs.Gather.{gather, renumber, Keeps, Marked}
+use Rattle.ledger.specs.Operations.{has, takes, join, single}
 use Rattle.ledger.proofs.Rows.{lay_adds, list_front, both_ways, lay_ledger}
 use Rattle.ledger.proofs.Reading.{none_some, true_false}
 use Rattle.ledger.proofs.Drawn.{Pictured, pictured, lists_vertices_of, codes_proper}
@@ -23,10 +20,10 @@ use Rattle.memory.specs.declared.work.Place.{Place}
 use Rattle.joining.specs.Recalled.{Right, RightEntry}
 use Rattle.counting.specs.Picks.{Short}
 use Rattle.store.specs.declared.fault.Fault.{Fault}
-use Rattle.store.specs.State.{State, Forgotten, check, check_lists, check_code, check_work, Checked}
+use Rattle.store.specs.State.{State, check, Checked}
 use Rattle.store.specs.Calls.{Adds, Removes, LaidDown, change_checks}
 use Rattle.store.proofs.Checks.{good_list}
-use Rattle.store.proofs.Shortness.{AllShort, short_none, short_blank, down_short}
+use Rattle.store.proofs.Shortness.{AllShort, down_short}
 
 pub record Standing {S : Type 0} (before : S → S → Bool) (capacity : ℕ) (s : State S) : Type 0 where
   pub sound : Sound before s.vertices

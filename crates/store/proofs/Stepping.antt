@@ -1,5 +1,5 @@
 -- Calls whose checks have passed take their steps.
-use Rattle.std.proofs.Common.{◌≡◌, ℕ, Bool, List, None, Ok, Err, Option, Result, subst}
+use Rattle.std.proofs.Common.{◌≡◌, ℕ, Bool, List, None, Option, Result, subst}
 use Rattle.symbols.specs.Wire.{Travel}
 use Rattle.ledger.specs.Ledger.{codes}
 use Rattle.ledger.specs.Operations.{takes, join, added, removed}

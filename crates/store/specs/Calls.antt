@@ -1,6 +1,6 @@
 -- The calls: for each, what it answers from a state, over any arguments and memory, and what state it leaves.
 -- A store's capacity never changes; `before` is the order of its symbols.
-use Rattle.std.specs.Prelude.{◌≡◌, ℕ, suc, ◌+◌, ◌*◌, ◌^◌, ◌<◌, ◌≤◌, Bool, true, false, cond, ◌⊎◌, List, [], ◌∷◌, ◌++◌, map, length, drop, Some, None, Ok, Err, Option, Result, nat_le, nat_lt}
+use Rattle.std.specs.Prelude.{◌≡◌, ℕ, ◌^◌, ◌≤◌, Bool, ◌⊎◌, List, [], ◌∷◌, ◌++◌, map, length, drop, Some, None, Ok, Err, Option, Result, nat_le, nat_lt}
 use Rattle.std.specs.List.{slice_get}
 use Rattle.std.specs.Option.{option_map}
 use Rattle.symbols.specs.Wire.{Travel}
@@ -15,7 +15,7 @@ use Rattle.memory.specs.declared.work.Place.{Place}
 use Rattle.joining.specs.Recalled.{RightEntry}
 use Rattle.wire.specs.Written.{written}
 use Rattle.store.specs.declared.fault.Fault.{Fault}
-use Rattle.store.specs.declared.fault.Fault.TheVariants.{NoSuchList, CodeTooLong, NoSuchRule, ShortOutput, LittleWork, TooManyCodes, NoSuchCode, ShelfFull}
+use Rattle.store.specs.declared.fault.Fault.TheVariants.{NoSuchRule, ShortOutput, TooManyCodes, NoSuchCode, ShelfFull}
 use Rattle.store.specs.State.{State, Forgotten, check, check_lists, check_code, check_work, check_output, answered, Checked}
 
 module _ {S : Type 0} (before : S → S → Bool) (capacity : ℕ) where

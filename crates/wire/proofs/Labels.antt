@@ -1,8 +1,7 @@
 -- The labels of records that were read are read again from their bytes.
-use Rattle.std.proofs.Common.{◌≡◌, ℕ, zero, suc, ◌+◌, ◌*◌, ◌≤◌, Bool, List, [], Some, None, Ok, Err, Option, Result, sym, refl, ap, ◌∙◌, arith}
+use Rattle.std.proofs.Common.{◌≡◌, ℕ, zero, suc, Bool, List, Some, Ok, sym, refl, ap, ◌∙◌, arith}
 use Rattle.std.specs.List.{slice_get}
 use Rattle.symbols.specs.Wire.{Travel}
-use Rattle.symbols.specs.declared.SymbolFault.{SymbolFault}
 use Rattle.ledger.specs.declared.Vertex.{Vertex}
 use Rattle.ledger.specs.Diagrams.{look, Good}
 use Rattle.ledger.proofs.Canon.{Kind, is_0, is_1, is_vertex, kind}

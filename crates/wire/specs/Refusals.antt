@@ -1,6 +1,5 @@
 -- The number of each refusal of a dispatch, and what it carries.
-use Rattle.std.specs.Prelude.{ℕ, Some, None, Option}
-use Rattle.symbols.specs.declared.SymbolFault.{SymbolFault}
+use Rattle.std.specs.Prelude.{ℕ, Some}
 use Rattle.symbols.specs.declared.Refusal.{Refusal}
 use Rattle.symbols.specs.Refusals.{carrying, plain}
 use Rattle.wire.specs.declared.faults.RecordFault.{RecordFault}

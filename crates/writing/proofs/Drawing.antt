@@ -1,17 +1,17 @@
 -- The vertices that are met, renumbered, are those that laying the list down in an empty ledger gives.
-use Rattle.std.proofs.Common.{◌≡◌, ℕ, zero, suc, ◌+◌, ◌<◌, ◌≤◌, Bool, true, ◌⊎◌, List, [], ◌∷◌, ◌++◌, map, length, get_or, Some, sym, refl, ap, ◌∙◌, subst, ap₂, inl, inr, arith}
+use Rattle.std.proofs.Common.{◌≡◌, ℕ, zero, suc, ◌+◌, ◌<◌, ◌≤◌, Bool, true, List, [], ◌∷◌, ◌++◌, map, length, Some, sym, refl, ap, ◌∙◌, subst, ap₂, arith}
 use mathlib.Core.Path.{subst⁻¹}
 use mathlib.Core.List.{map-append}
 use Rattle.symbols.specs.Order.{Order}
 use Rattle.memory.specs.declared.work.Place.{Place}
 use Rattle.ledger.specs.declared.Vertex.{Vertex}
 use Rattle.ledger.specs.Lists.{Codes, none, blank, begun}
-use Rattle.ledger.specs.Diagrams.{look, Good, Sound}
+use Rattle.ledger.specs.Diagrams.{Good, Sound}
 use Rattle.ledger.specs.Ledger.{listed, position, number, lay, codes, vertices_in, vertices_of, fresh}
-use Rattle.ledger.proofs.Canon.{Kind, is_0, is_1, is_vertex, kind, vertex_good}
+use Rattle.ledger.proofs.Canon.{Kind, is_0, is_1, is_vertex, kind}
 use Rattle.ledger.proofs.Rows.{Known, Ledger, empty_row, listed_get_or, lay_ledger, lay_knows}
 use Rattle.ledger.proofs.Drawn.{Pictured, pictured, codes_proper}
-use Rattle.ledger.proofs.Parts.{Both, held_both}
+use Rattle.ledger.proofs.Parts.{held_both}
 use Rattle.writing.specs.Met.{list_at, met_numbers, Sparse, NewLink}
 use Rattle.writing.specs.Records.{Renumbered, Drawn}
 use Rattle.writing.proofs.Unwinding.{met_lists, lists_long, lists_at, good_at, stands_met}

@@ -1,5 +1,5 @@
 -- Records written one after another.
-use Rattle.std.proofs.Common.{◌≡◌, ℕ, zero, suc, ◌+◌, ◌-◌, ◌*◌, ◌<◌, ◌≤◌, List, [], ◌∷◌, ◌++◌, length, take, drop, Some, sym, refl, ap, ◌∙◌, subst, ap₂, append_assoc, append-nil, mul-le-mul_right, suc-mul, zero-mul, arith, length-append, take-append-drop, length-take-le, drop-drop, take_at, drop_at}
+use Rattle.std.proofs.Common.{◌≡◌, ℕ, zero, suc, ◌+◌, ◌-◌, ◌*◌, ◌<◌, ◌≤◌, List, [], ◌∷◌, ◌++◌, length, take, drop, sym, refl, ap, ◌∙◌, subst, ap₂, append_assoc, append-nil, mul-le-mul_right, suc-mul, zero-mul, arith, length-append, take-append-drop, length-take-le, drop-drop, take_at, drop_at}
 use borrow.Rule.Slice.PartMut.{put_mid}
 use Rattle.std.proofs.lemmas.List.{drop_all}
 use Rattle.memory.specs.declared.work.Place.{Place}
@@ -7,7 +7,7 @@ use Rattle.ledger.specs.declared.Vertex.{Vertex}
 use Rattle.ledger.specs.Dispatch.{be4, records}
 use Rattle.ledger.proofs.Ends.{length_snoc}
 use Rattle.wire.specs.Records.{record_bytes}
-use Rattle.writing.specs.Records.{Renumbered, Drawn, start_of, PutAt, Filled}
+use Rattle.writing.specs.Records.{Drawn, start_of, PutAt, Filled}
 
 pub next_start : (w k : ℕ) → start_of w (k + 1) ≡ start_of w k + (w + 8)
 next_start w k = let e : k + 1 ≡ suc k = omega arith in rw e (omega (arith, suc-mul k (w + 8)))

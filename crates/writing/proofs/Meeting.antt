@@ -1,11 +1,11 @@
 -- The order and the places of its vertices.
-use Rattle.std.proofs.Common.{◌≡◌, ℕ, zero, suc, ◌+◌, ◌-◌, ◌<◌, ◌≤◌, Bool, true, false, ◌≢◌, ◌⊎◌, List, [], ◌∷◌, ◌++◌, length, get_or, set, sym, refl, ap, ◌∙◌, subst, inl, inr, arith, length-set, get_or-set_other, get_or-set_same}
+use Rattle.std.proofs.Common.{◌≡◌, ℕ, zero, suc, ◌+◌, ◌-◌, ◌<◌, ◌≤◌, ◌≢◌, ◌⊎◌, List, [], ◌∷◌, ◌++◌, length, get_or, set, sym, refl, ap, ◌∙◌, inl, inr, arith, length-set, get_or-set_other, get_or-set_same}
 use mathlib.Core.List.{Memᴰ}
-use native.Mathlib.Decide.{ℕ_discrete, dec_lt}
+use native.Mathlib.Decide.{ℕ_discrete}
 use Rattle.memory.specs.declared.work.Place.{Place}
 use Rattle.ledger.specs.Diagrams.{Apart}
 use Rattle.ledger.proofs.Pigeons.{pigeons, upwards, length_upwards, in_upwards}
-use Rattle.writing.specs.Met.{vacant, list_at, number_at, met_numbers, Sparse, Met, Unmet, listing, numbering, with_listed, with_met}
+use Rattle.writing.specs.Met.{vacant, list_at, number_at, met_numbers, Sparse, Unmet, listing, numbering, with_listed, with_met}
 
 -- what the second write leaves of the lists, and what the first leaves of the numbers
 numbering_list : (ps : List Place) (j x : ℕ) → j < length ps → (k : ℕ) → list_at (set ps j (numbering (get_or ps j vacant) x)) k ≡ list_at ps k

@@ -1,5 +1,5 @@
 -- The stack of a walk, and that a walk ends.
-use Rattle.std.proofs.Common.{◌≡◌, ℕ, zero, suc, ◌+◌, ◌-◌, ◌*◌, ◌<◌, ◌≤◌, ◌≢◌, List, [], ◌∷◌, length, set, sym, refl, ap, ◌∙◌, subst, suc-mul, arith, get_or-set_other, get_or-set_same}
+use Rattle.std.proofs.Common.{◌≡◌, ℕ, zero, suc, ◌+◌, ◌-◌, ◌*◌, ◌<◌, ◌≤◌, ◌≢◌, List, [], ◌∷◌, length, set, refl, ap, suc-mul, arith, get_or-set_other, get_or-set_same}
 use Rattle.memory.specs.declared.work.Place.{Place}
 use Rattle.writing.specs.Met.{vacant, list_at, Unmet, with_met}
 use Rattle.writing.specs.Walks.{waiting_place, waiting, Above, Stacked, starting, first_of}

@@ -1,13 +1,13 @@
 -- One turn of a walk.
-use Rattle.std.proofs.Common.{◌≡◌, ℕ, suc, ◌+◌, ◌-◌, ◌<◌, ◌≤◌, Bool, ◌⊎◌, List, [], ◌∷◌, map, length, set, Some, None, sym, refl, ap, ◌∙◌, subst, arith}
+use Rattle.std.proofs.Common.{◌≡◌, ℕ, suc, ◌+◌, ◌-◌, ◌<◌, ◌≤◌, Bool, List, [], ◌∷◌, map, length, set, Some, None, sym, ap, ◌∙◌, subst, arith}
 use mathlib.Core.Path.{subst⁻¹}
 use Rattle.symbols.specs.Order.{Order}
 use Rattle.memory.specs.declared.work.Place.{Place}
 use Rattle.ledger.specs.declared.Vertex.{Vertex}
-use Rattle.ledger.specs.Diagrams.{look, Sound}
+use Rattle.ledger.specs.Diagrams.{Sound}
 use Rattle.ledger.specs.Ledger.{lay, codes}
 use Rattle.writing.specs.Met.{list_at, met_numbers, Sparse, Unmet, with_met}
-use Rattle.writing.specs.Walks.{waiting_place, waiting, Stacked, Walking, Passed, NextLink, left, first_of, Turns, TurnsTo, laying_all, target, starting, Starts}
+use Rattle.writing.specs.Walks.{waiting_place, waiting, Stacked, Walking, NextLink, first_of, Turns, TurnsTo, laying_all, target, starting, Starts}
 use Rattle.writing.specs.declared.walk.Course.{Course}
 use Rattle.writing.proofs.Meeting.{met_long, sparse_more, numbers_more, room}
 use Rattle.writing.proofs.Stacking.{length_waiting, waiting_last, waiting_push, stacked_push, stacked_few, stacked_pop, less_push, less_meet, first_small, stacked_start}

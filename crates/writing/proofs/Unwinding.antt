@@ -1,5 +1,5 @@
 -- The walk is laying down: a list whose parts are laid down first is laid down all the same.
-use Rattle.std.proofs.Common.{◌≡◌, ℕ, zero, suc, ◌+◌, ◌<◌, ◌≤◌, Bool, true, false, ◌⊎◌, List, [], ◌∷◌, ◌++◌, map, length, get_or, Some, None, Option, sym, refl, ap, ◌∙◌, subst, inl, inr, arith}
+use Rattle.std.proofs.Common.{◌≡◌, ℕ, zero, suc, ◌<◌, ◌≤◌, Bool, true, false, ◌⊎◌, List, [], ◌∷◌, ◌++◌, map, length, get_or, Some, None, sym, refl, ap, ◌∙◌, subst, inl, inr, arith}
 use mathlib.Core.Path.{subst⁻¹}
 use mathlib.Core.List.{map-append}
 use native.Mathlib.Decide.{ℕ_discrete}
@@ -7,7 +7,7 @@ use lib.ListN.{length-map, get_or-map}
 use Rattle.symbols.specs.Order.{Order}
 use Rattle.memory.specs.declared.work.Place.{Place}
 use Rattle.ledger.specs.declared.Vertex.{Vertex}
-use Rattle.ledger.specs.Lists.{Codes, none, blank, begun}
+use Rattle.ledger.specs.Lists.{Codes, none, begun}
 use Rattle.ledger.specs.Diagrams.{look, Good, Sound}
 use Rattle.ledger.specs.Ledger.{listed, position, number, lay, lists, codes}
 use Rattle.ledger.proofs.Reading.{true_false, none_some}
@@ -15,7 +15,7 @@ use Rattle.ledger.proofs.Canon.{Kind, is_0, is_1, is_vertex, kind, vertex_good}
 use Rattle.ledger.proofs.Ends.{get_d_front, get_or_last, length_snoc}
 use Rattle.ledger.proofs.Rows.{both_ways, Known, known_held, listed_front, listed_get_or, position_below, get_or_position, number_list, lay_known, lay_knows, lay_new, lay_adds, known_laid, still_new}
 use Rattle.ledger.proofs.Drawn.{Pictured, pictured}
-use Rattle.writing.specs.Met.{list_at, met_numbers, Sparse, Met, Unmet}
+use Rattle.writing.specs.Met.{list_at, met_numbers, Sparse, Unmet}
 use Rattle.writing.specs.Walks.{Passed, laying_all, starting}
 
 -- a good number from 2 on has a vertex

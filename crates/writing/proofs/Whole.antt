@@ -1,8 +1,7 @@
 -- The whole dispatch.
-use Rattle.std.proofs.Common.{◌≡◌, ℕ, ◌+◌, ◌*◌, ◌<◌, ◌≤◌, Bool, List, [], ◌∷◌, ◌++◌, length, take, drop, Ok, Err, Result, sym, refl, ap, ◌∙◌, subst, ap₂, append_assoc, mul-le-mul, arith, drop-drop, take_at, drop_at}
+use Rattle.std.proofs.Common.{◌≡◌, ℕ, ◌+◌, ◌*◌, ◌<◌, ◌≤◌, Bool, List, [], ◌++◌, length, take, drop, Ok, Err, sym, refl, ap, ◌∙◌, ap₂, mul-le-mul, arith, drop-drop, take_at, drop_at}
 use Rattle.symbols.specs.Order.{Order}
-use Rattle.symbols.specs.Wire.{Travel, WireLaws}
-use Rattle.symbols.specs.declared.SymbolFault.{SymbolFault}
+use Rattle.symbols.specs.Wire.{Travel}
 use Rattle.memory.specs.declared.work.Place.{Place}
 use Rattle.ledger.specs.declared.Vertex.{Vertex}
 use Rattle.ledger.specs.Diagrams.{Good, Sound}
@@ -14,7 +13,7 @@ use Rattle.wire.specs.declared.head.Head.{Head}
 use Rattle.wire.specs.Heads.{head_bytes}
 use Rattle.wire.specs.Written.{written}
 use Rattle.writing.specs.Met.{Sparse, NewLink}
-use Rattle.writing.specs.Records.{Drawn, Filled, start_of}
+use Rattle.writing.specs.Records.{Filled, start_of}
 use Rattle.writing.specs.Writes.{Writes}
 use Rattle.writing.specs.declared.ShortOutput.{ShortOutput}
 use Rattle.writing.proofs.Unwinding.{met_lists}

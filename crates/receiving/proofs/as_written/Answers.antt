@@ -1,4 +1,4 @@
-use Rattle.std.proofs.Common.{subst, arith}
+use Rattle.std.proofs.Common.{arith}
 use mathlib.Core.Path.{subst⁻¹}
 use Rattle.ledger.specs.Visits.{Visits}
 use Rattle.receiving.proofs.as_written.Goals as goal

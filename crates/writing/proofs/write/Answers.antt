@@ -1,4 +1,4 @@
-use Rattle.std.proofs.Common.{◌≡◌, ◌+◌, ◌*◌, ◌≤◌, length, drop, sym, refl, ap, ◌∙◌, subst, arith}
+use Rattle.std.proofs.Common.{◌≡◌, ◌+◌, ◌*◌, ◌≤◌, length, drop, sym, refl, ◌∙◌, subst, arith}
 use Rattle.wire.specs.Records.{travel}
 use Rattle.writing.proofs.Whole.{whole_fits, head_kept, too_short, whole_written}
 use Rattle.writing.proofs.write.Goals as goal

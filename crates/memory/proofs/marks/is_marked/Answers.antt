@@ -1,4 +1,3 @@
-use Rattle.std.proofs.Common.{arith}
 use Rattle.std.proofs.lemmas.Bool.{false≢true}
 use Rattle.memory.proofs.Marking.{marked_at, unmarked_past}
 use Rattle.memory.proofs.marks.is_marked.Goals as goal

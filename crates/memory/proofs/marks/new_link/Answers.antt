@@ -1,4 +1,4 @@
-use Rattle.std.proofs.Common.{◌∙◌, arith}
+use Rattle.std.proofs.Common.{◌∙◌}
 use Rattle.memory.proofs.Marking.{noted_read, noted_past, noted_new}
 use Rattle.memory.proofs.marks.new_link.Goals as goal
 

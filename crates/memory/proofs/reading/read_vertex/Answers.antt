@@ -1,4 +1,4 @@
-use Rattle.std.proofs.Common.{◌≡◌, ℕ, ◌<◌, Some, sym, refl, ap, ◌∙◌, ap₂, arith, rules}
+use Rattle.std.proofs.Common.{◌≡◌, ℕ, Some, ap, ◌∙◌, ap₂, arith}
 use Rattle.ledger.proofs.Least.{vertex_from_2}
 use Rattle.memory.proofs.Looks.{looked}
 use Rattle.memory.proofs.reading.read_vertex.Goals as goal

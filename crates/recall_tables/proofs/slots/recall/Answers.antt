@@ -1,4 +1,4 @@
-use Rattle.std.proofs.Common.{◌≡◌, ◌<◌, length, get_or, sym, ap, ◌∙◌, arith}
+use Rattle.std.proofs.Common.{get_or, sym, ap, ◌∙◌, arith}
 use Rattle.std.proofs.lemmas.Bool.{both_ways}
 use Rattle.recall_tables.specs.Slots.{slot_of}
 use Rattle.recall_tables.proofs.Entries.{bare, held_slot, held_past, entry_other, entry_empty, entry_own}

@@ -1,4 +1,4 @@
-use Rattle.std.proofs.Common.{◌≡◌, ◌<◌, length, sym, ap, ◌∙◌, arith}
+use Rattle.std.proofs.Common.{◌≡◌, ◌<◌, length, ap, ◌∙◌, arith}
 use Rattle.recall_tables.specs.Slots.{slot_of, slot_count}
 use Rattle.recall_tables.proofs.Filling.{told, recalls, spares}
 use Rattle.recall_tables.proofs.slots.tell.Goals as goal

@@ -1,4 +1,4 @@
-use Rattle.std.proofs.Common.{◌≡◌, true, ltb, sym, refl}
+use Rattle.std.proofs.Common.{refl}
 use Rattle.std.proofs.lemmas.Option.{slice_get_past, slice_get_read}
 use Rattle.std.proofs.lemmas.Bool.{lt-ltb}
 use Rattle.recall_tables.proofs.slots.was_filled.Goals as goal

@@ -1,4 +1,4 @@
-use Rattle.std.proofs.Common.{◌-◌, arith}
+use Rattle.std.proofs.Common.{arith}
 use Rattle.std.proofs.lemmas.Bool.{false≢true, both_ways}
 use Rattle.receiving.proofs.Buckets.{search_begins, search_next}
 use Rattle.receiving.proofs.apart.seen_before.Goals as goal

@@ -1,4 +1,4 @@
-use Rattle.std.proofs.Common.{◌+◌, ◌-◌, sym, arith}
+use Rattle.std.proofs.Common.{◌+◌, sym, arith}
 use Rattle.receiving.proofs.Walking.{step_passed, step_none, step_wrong, step_close, step_vertex, down_pop, down_push, visit_room}
 use Rattle.receiving.proofs.visiting.step.Goals as goal
 

@@ -1,4 +1,4 @@
-use Rattle.std.proofs.Common.{◌≡◌, ℕ, ap, subst, arith}
+use Rattle.std.proofs.Common.{ℕ, ap, subst, arith}
 use Rattle.memory.proofs.Looks.{looked, unlooked}
 use Rattle.writing.specs.Met.{list_at, NewLink}
 use Rattle.writing.proofs.Unwinding.{has_vertex}

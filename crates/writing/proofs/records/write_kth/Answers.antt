@@ -1,7 +1,6 @@
-use Rattle.std.proofs.Common.{◌≡◌, ◌+◌, ◌-◌, ◌*◌, ◌≤◌, length, take, drop, arith, length-take}
+use Rattle.std.proofs.Common.{◌+◌, ◌-◌, ◌*◌, ◌≤◌, length, take, drop, arith, length-take}
 use mathlib.Core.Path.{subst⁻¹}
 use Rattle.wire.specs.Records.{record_bytes}
-use Rattle.writing.specs.Records.{start_of}
 use Rattle.writing.proofs.Filling.{record_within, put_record, put_kept, length_record}
 use Rattle.writing.proofs.records.write_kth.Goals as goal
 

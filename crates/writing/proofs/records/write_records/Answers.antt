@@ -1,5 +1,4 @@
-use Rattle.std.proofs.Common.{◌≡◌, ◌+◌, ◌≤◌, length, drop, refl, ◌∙◌, subst, arith}
-use Rattle.ledger.specs.Diagrams.{Formed}
+use Rattle.std.proofs.Common.{◌≡◌, ◌+◌, ◌≤◌, drop, refl, ◌∙◌, subst, arith}
 use Rattle.writing.specs.Records.{Filled, start_of}
 use Rattle.writing.proofs.Filling.{next_start, drop_later, filled_none, filled_more}
 use Rattle.writing.proofs.records.write_records.Goals as goal

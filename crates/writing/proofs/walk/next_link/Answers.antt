@@ -1,4 +1,4 @@
-use Rattle.std.proofs.Common.{◌≡◌, ℕ, true, false, ap, subst, inl, inr, arith}
+use Rattle.std.proofs.Common.{◌≡◌, ℕ, ap, subst, inl, inr, arith}
 use Rattle.memory.proofs.Looks.{looked, unlooked}
 use Rattle.writing.specs.Met.{MetOrNot}
 use Rattle.writing.specs.Walks.{Passed}

@@ -1,4 +1,4 @@
-use Rattle.std.proofs.Common.{◌<◌, length, arith}
+use Rattle.std.proofs.Common.{arith}
 use Rattle.writing.proofs.Turning.{in_stack, last_good, last_unmet, deeper, link_turns, link_leads, has_place, vertex_turns, vertex_leads}
 use Rattle.writing.proofs.walk.turn.Goals as goal
 

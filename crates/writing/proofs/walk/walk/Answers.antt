@@ -1,4 +1,4 @@
-use Rattle.std.proofs.Common.{◌≤◌, length, sym, ◌∙◌}
+use Rattle.std.proofs.Common.{◌≤◌, length, ◌∙◌}
 use mathlib.Core.Path.{subst⁻¹}
 use Rattle.writing.specs.Met.{Sparse}
 use Rattle.writing.proofs.Turning.{start_walks, start_leads, end_leads}

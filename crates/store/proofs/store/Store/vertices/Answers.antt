@@ -1,5 +1,5 @@
 use Rattle.std.proofs.Common.{None, ◌∙◌}
-use Rattle.store.proofs.Checks.{passed, good_list}
+use Rattle.store.proofs.Checks.{passed}
 use Rattle.store.proofs.Runs.{run_stands}
 use Rattle.store.proofs.store.Store.vertices.Goals as goal
 

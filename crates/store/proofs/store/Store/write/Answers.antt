@@ -1,7 +1,6 @@
-use Rattle.std.proofs.Common.{◌≡◌, None, refl, ap, ◌∙◌, rules}
-use Rattle.std.proofs.lemmas.Bool.{le-ltb, lt-ltb}
+use Rattle.std.proofs.Common.{◌∙◌, rules}
 use Rattle.store.specs.State.{state}
-use Rattle.store.proofs.Checks.{passed, good_list}
+use Rattle.store.proofs.Checks.{passed}
 use Rattle.store.proofs.Runs.{run_stands}
 use Rattle.store.proofs.Alike.{written_alike, writes_ok, writes_not}
 use Rattle.wire.specs.Records.{travel}
