@@ -5,7 +5,7 @@ use Rattle.std.proofs.lemmas.Str.Parse.{IsNumeralModel, numerals_by_fold}
 use Rattle.std.proofs.lemmas.Bool.{ltb-true, ltb-false, lt-ltb, le-ltb, leb-true, le-leb, ne_eqb, not-true, eqb-false, and_parts}
 use Rattle.std.specs.Option.{option_map}
 use Rattle.std.specs.Int.{IsInRange}
-use Rattle.std.specs.List.{AllByRecursion as All}
+use Rattle.std.specs.List.{AllByRecursion}
 use Rattle.commands.specs.Reading.{onto, grown, number_after, plain, number_of, narrow, narrow_of}
 
 -- what was found has the property
@@ -31,7 +31,7 @@ holds_cond P false x o h k = k
 
 -- digits, and the number that they write
 abbrev pub Figures : List ℕ → Type 0
-Figures ds = All (IsInRange 48 57) ds
+Figures ds = AllByRecursion (IsInRange 48 57) ds
 
 abbrev read_on : ℕ → List ℕ → ℕ
 read_on n [] = n

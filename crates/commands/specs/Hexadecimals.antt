@@ -1,6 +1,6 @@
 -- Bytes as hexadecimal text: two lower-case digits a byte.
 use Rattle.std.specs.Prelude.{◌≡◌, ℕ, ◌+◌, ◌/◌, ◌%◌, ◌<◌, cond, List, [], ◌∷◌, nat_lt}
-use Rattle.std.specs.List.{AllByRecursion as All}
+use Rattle.std.specs.List.{AllByRecursion}
 
 -- the lower-case digit of a number below 16
 abbrev pub digit : ℕ → ℕ
@@ -13,7 +13,7 @@ hexadecimal (b ∷ bs) = digit (b / 16) ∷ digit (b % 16) ∷ hexadecimal bs
 
 -- each is a byte
 abbrev pub Bytes : List ℕ → Type 0
-Bytes bs = All (λ b. b < 256) bs
+Bytes bs = AllByRecursion (λ b. b < 256) bs
 
 -- the text writes these bytes
 abbrev pub Writes : List ℕ → List ℕ → Type 0

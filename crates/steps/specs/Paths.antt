@@ -1,6 +1,6 @@
 -- The text of a code of steps, as in T3/B20/P7: what it is, and what it is to spell a code.
 use Rattle.std.specs.Prelude.{◌≡◌, ℕ, ◌+◌, ◌<◌, ◌↔◌, List, [], ◌∷◌, ◌++◌, length, take, drop, Ok, Err, decimal, Result}
-use Rattle.std.specs.List.{flat_map, AllByRecursion as All}
+use Rattle.std.specs.List.{flat_map, AllByRecursion}
 use Rattle.texts.specs.declared.TextFault.{TextFault}
 use Rattle.texts.specs.declared.TextFault.TheVariants.{Unreadable}
 use Rattle.steps.specs.Units.{unit_letter}
@@ -25,7 +25,7 @@ Short s = s.number < 65536
 
 -- a text spells a code exactly if it is the code's text, each number of 16 bits; a text that spells none is unreadable
 pub record Exact (t : List ℕ) (spelled : Result (List Step) TextFault) : Type 0 where
-  pub spells : (code : List Step) → (spelled ≡ Ok code) ↔ ((text_of code ≡ t) × All Short code)
+  pub spells : (code : List Step) → (spelled ≡ Ok code) ↔ ((text_of code ≡ t) × AllByRecursion Short code)
   pub fails : (fault : TextFault) → spelled ≡ Err fault → fault ≡ Unreadable
 
 -- an output with bytes laid from a place on

@@ -4,7 +4,7 @@ use Rattle.std.proofs.Common.{ap, sym, subst, ◌∙◌, append_assoc, arith, eq
 use Rattle.std.proofs.lemmas.Fmt.{decimal_digit, decimal_by_steps}
 use Rattle.std.proofs.lemmas.Bool.Decides.{nat_tests}
 use Rattle.std.specs.Option.{option_map, ok_or}
-use Rattle.std.specs.List.{flat_map, AllByRecursion as All}
+use Rattle.std.specs.List.{flat_map, AllByRecursion}
 use Rattle.texts.specs.Texts.{OwnText}
 use Rattle.texts.specs.declared.TextFault.{TextFault}
 use Rattle.texts.specs.declared.TextFault.TheVariants.{Unreadable}
@@ -54,7 +54,7 @@ Fine (Numbered s) = Short s
 
 -- a code whose text is what is read of a step and the bytes after that
 abbrev Own : Stage → List ℕ → List Step → Type 0
-Own stage bs code = (text_of code ≡ begun stage ++ bs) × All Short code × (1 ≤ length code)
+Own stage bs code = (text_of code ≡ begun stage ++ bs) × AllByRecursion Short code × (1 ≤ length code)
 
 slash : (code : List Step) → 1 ≤ length code → flat_map slashed code ≡ 47 ∷ text_of code
 slash [] h = absurd (omega arith)
@@ -128,10 +128,10 @@ ok_own : (o : Option (List Step)) (code : List Step) → ok_or {E = TextFault} o
 ok_own None code e = absurd (let z : ◌≡◌ {A = ℕ} 0 1 = cc in omega arith)
 ok_own (Some c) code e = cc
 
-spelled_own : (t : List ℕ) (code : List Step) → spelled t ≡ Ok code → (text_of code ≡ t) × All Short code
+spelled_own : (t : List ℕ) (code : List Step) → spelled t ≡ Ok code → (text_of code ≡ t) × AllByRecursion Short code
 spelled_own [] code e =
     let same : [] ≡ code = cc in
-    let P : List Step → Type 0 = λ c. (text_of c ≡ []) × All Short c in
+    let P : List Step → Type 0 = λ c. (text_of c ≡ []) × AllByRecursion Short c in
     subst P same (refl, tt)
 spelled_own (b ∷ bs) code e = let o = steps_own (b ∷ bs) Start code tt (ok_own (steps_from Start (b ∷ bs)) code e) in (o.0, o.1)
 
@@ -164,11 +164,11 @@ digits_read u n h = decimal_by_steps P (λ k l s bs. first_read u k l bs) more n
 step_read : (s : Step) → Short s → (bs : List ℕ) → steps_from Start (step_text s ++ bs) ≡ steps_from (Numbered s) bs
 step_read s h bs = letter_read s.unit (decimal s.number ++ bs) ∙ digits_read s.unit s.number h bs
 
-rest_read : (code : List Step) (s : Step) → All Short code → steps_from (Numbered s) (flat_map slashed code) ≡ Some (s ∷ code)
+rest_read : (code : List Step) (s : Step) → AllByRecursion Short code → steps_from (Numbered s) (flat_map slashed code) ≡ Some (s ∷ code)
 rest_read [] s h = refl
 rest_read (t ∷ code) s h = ap (option_map (with_done (Some s))) (step_read t h.0 (flat_map slashed code) ∙ rest_read code t h.1)
 
-pub text_back : (code : List Step) → All Short code → spelled (text_of code) ≡ Ok code
+pub text_back : (code : List Step) → AllByRecursion Short code → spelled (text_of code) ≡ Ok code
 text_back [] h = refl
 text_back (s ∷ code) h = ap (λ o. ok_or o Unreadable) (step_read s h.0 (flat_map slashed code) ∙ rest_read code s h.1)
 

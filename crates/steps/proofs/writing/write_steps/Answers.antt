@@ -1,7 +1,7 @@
 use Rattle.std.proofs.Common.{◌≡◌, ℕ, ◌≤◌, List, ◌∷◌, ◌++◌, length, drop, set, Ok, sym, refl, subst, arith, length-set}
 use Rattle.std.proofs.ByRecursion.{All-more}
 use Rattle.std.proofs.lemmas.List.{nil_from_length, take_all}
-use Rattle.std.specs.List.{AllByRecursion as All}
+use Rattle.std.specs.List.{AllByRecursion}
 use Rattle.steps.specs.Paths.{text_of, Short}
 use Rattle.steps.specs.Stages.{spelled}
 use Rattle.steps.specs.declared.Step.{Step}
@@ -78,5 +78,5 @@ returns c =
       end_all first rest i a c.loop-step.at h c.write_step-at.ensures.value c.loop-step.invariant.0,
       written_all first rest i a c.loop-step.out c.write_step-at.new.out old h c.write_step-at.ensures.value c.loop-step.invariant.1 c.write_step-at.ensures.after,
     ) in
-    let fit : All Short (first ∷ rest) = (c.write_step-at.ensures.short, subst (λ s. All Short s) (take_all i rest h) c.loop-step.invariant.2) in
+    let fit : AllByRecursion Short (first ∷ rest) = (c.write_step-at.ensures.short, subst (λ s. AllByRecursion Short s) (take_all i rest h) c.loop-step.invariant.2) in
     record { answer = subst P (sym split) at_end; back = subst (λ code. spelled (text_of code) ≡ Ok code) (sym split) (text_back (first ∷ rest) fit) }
