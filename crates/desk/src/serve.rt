@@ -1,6 +1,6 @@
 // Serving a line: it is read as a command, the command is called on the store, and the result is written.
 ghost use Rattle.std.specs.Prelude.{◌≡◌, ◌≤◌, List, length, IfOk};
-ghost use Rattle.commands.specs.Grammar.{add as add-line, remove as remove-line, holds as holds-line, under as under-line};
+ghost use Rattle.commands.specs.Grammar.{add as add_line, remove as remove_line, holds as holds_line, under as under_line};
 ghost use Rattle.commands.specs.Meaning.{meaning};
 ghost use Rattle.memory.specs.declared.work.Place.{Place};
 ghost use Rattle.store.specs.State.{state};
@@ -38,7 +38,7 @@ fn add<S: TextSymbol, B: Shelf<S>, R: RecallTable>(
     code: &mut [S],
     work: &mut [Place],
 ) -> Reply
-    ensures answer { 65 ≤ length code.old → Goes S.Symbol.before (B.Shelf.capacity store.old.shelf) (B.Shelf.ready store.old.shelf) (state (B.Shelf.vertices store.old.shelf) (R.RecallTable.table store.old.recall)) (B.Shelf.ready store.new.shelf) (state (B.Shelf.vertices store.new.shelf) (R.RecallTable.table store.new.recall)) (Calls S.Symbol.before S.TextSymbol.spells (B.Shelf.capacity store.old.shelf) (state (B.Shelf.vertices store.old.shelf) (R.RecallTable.table store.old.recall)) work.old code.old (add-line list text.now) result (state (B.Shelf.vertices store.new.shelf) (R.RecallTable.table store.new.recall)) code.new) }
+    ensures answer { 65 ≤ length code.old → Goes S.Symbol.before (B.Shelf.capacity store.old.shelf) (B.Shelf.ready store.old.shelf) (state (B.Shelf.vertices store.old.shelf) (R.RecallTable.table store.old.recall)) (B.Shelf.ready store.new.shelf) (state (B.Shelf.vertices store.new.shelf) (R.RecallTable.table store.new.recall)) (Calls S.Symbol.before S.TextSymbol.spells (B.Shelf.capacity store.old.shelf) (state (B.Shelf.vertices store.old.shelf) (R.RecallTable.table store.old.recall)) work.old code.old (add_line list text.now) result (state (B.Shelf.vertices store.new.shelf) (R.RecallTable.table store.new.recall)) code.new) }
     ensures size { B.Shelf.capacity store.new.shelf ≡ B.Shelf.capacity store.old.shelf }
 {
     match read_text(text, code) {
@@ -54,7 +54,7 @@ fn remove<S: TextSymbol, B: Shelf<S>, R: RecallTable>(
     code: &mut [S],
     work: &mut [Place],
 ) -> Reply
-    ensures answer { 65 ≤ length code.old → Goes S.Symbol.before (B.Shelf.capacity store.old.shelf) (B.Shelf.ready store.old.shelf) (state (B.Shelf.vertices store.old.shelf) (R.RecallTable.table store.old.recall)) (B.Shelf.ready store.new.shelf) (state (B.Shelf.vertices store.new.shelf) (R.RecallTable.table store.new.recall)) (Calls S.Symbol.before S.TextSymbol.spells (B.Shelf.capacity store.old.shelf) (state (B.Shelf.vertices store.old.shelf) (R.RecallTable.table store.old.recall)) work.old code.old (remove-line list text.now) result (state (B.Shelf.vertices store.new.shelf) (R.RecallTable.table store.new.recall)) code.new) }
+    ensures answer { 65 ≤ length code.old → Goes S.Symbol.before (B.Shelf.capacity store.old.shelf) (B.Shelf.ready store.old.shelf) (state (B.Shelf.vertices store.old.shelf) (R.RecallTable.table store.old.recall)) (B.Shelf.ready store.new.shelf) (state (B.Shelf.vertices store.new.shelf) (R.RecallTable.table store.new.recall)) (Calls S.Symbol.before S.TextSymbol.spells (B.Shelf.capacity store.old.shelf) (state (B.Shelf.vertices store.old.shelf) (R.RecallTable.table store.old.recall)) work.old code.old (remove_line list text.now) result (state (B.Shelf.vertices store.new.shelf) (R.RecallTable.table store.new.recall)) code.new) }
     ensures size { B.Shelf.capacity store.new.shelf ≡ B.Shelf.capacity store.old.shelf }
 {
     match read_text(text, code) {
@@ -69,7 +69,7 @@ fn holds<S: TextSymbol, B: Shelf<S>, R: RecallTable>(
     text: &[u8],
     code: &mut [S],
 ) -> Reply
-    ensures { 65 ≤ length code.old → (work : List Place) → Asks S.Symbol.before (B.Shelf.capacity store.now.shelf) (B.Shelf.ready store.now.shelf) (state (B.Shelf.vertices store.now.shelf) (R.RecallTable.table store.now.recall)) (Calls S.Symbol.before S.TextSymbol.spells (B.Shelf.capacity store.now.shelf) (state (B.Shelf.vertices store.now.shelf) (R.RecallTable.table store.now.recall)) work code.old (holds-line list text.now) result (state (B.Shelf.vertices store.now.shelf) (R.RecallTable.table store.now.recall)) code.new) }
+    ensures { 65 ≤ length code.old → (work : List Place) → Asks S.Symbol.before (B.Shelf.capacity store.now.shelf) (B.Shelf.ready store.now.shelf) (state (B.Shelf.vertices store.now.shelf) (R.RecallTable.table store.now.recall)) (Calls S.Symbol.before S.TextSymbol.spells (B.Shelf.capacity store.now.shelf) (state (B.Shelf.vertices store.now.shelf) (R.RecallTable.table store.now.recall)) work code.old (holds_line list text.now) result (state (B.Shelf.vertices store.now.shelf) (R.RecallTable.table store.now.recall)) code.new) }
 {
     match read_text(text, code) {
         Ok(n) => of_truth(store.holds(list, &code[0..n])),
@@ -83,7 +83,7 @@ fn under<S: TextSymbol, B: Shelf<S>, R: RecallTable>(
     text: &[u8],
     code: &mut [S],
 ) -> Reply
-    ensures { 65 ≤ length code.old → (work : List Place) → Asks S.Symbol.before (B.Shelf.capacity store.now.shelf) (B.Shelf.ready store.now.shelf) (state (B.Shelf.vertices store.now.shelf) (R.RecallTable.table store.now.recall)) (Calls S.Symbol.before S.TextSymbol.spells (B.Shelf.capacity store.now.shelf) (state (B.Shelf.vertices store.now.shelf) (R.RecallTable.table store.now.recall)) work code.old (under-line list text.now) result (state (B.Shelf.vertices store.now.shelf) (R.RecallTable.table store.now.recall)) code.new) }
+    ensures { 65 ≤ length code.old → (work : List Place) → Asks S.Symbol.before (B.Shelf.capacity store.now.shelf) (B.Shelf.ready store.now.shelf) (state (B.Shelf.vertices store.now.shelf) (R.RecallTable.table store.now.recall)) (Calls S.Symbol.before S.TextSymbol.spells (B.Shelf.capacity store.now.shelf) (state (B.Shelf.vertices store.now.shelf) (R.RecallTable.table store.now.recall)) work code.old (under_line list text.now) result (state (B.Shelf.vertices store.now.shelf) (R.RecallTable.table store.now.recall)) code.new) }
 {
     match read_text(text, code) {
         Ok(n) => of_list(store.under(list, &code[0..n])),

@@ -8,7 +8,7 @@ ghost use Rattle.std.specs.Prelude.{◌≡◌, ℕ, List, Ok, Result, OnOk, slic
 ghost use Rattle.texts.specs.Refusals.{refusal};
 ghost use Rattle.texts.specs.Texts.{OwnText, ReadTo, WrittenTo};
 ghost use Rattle.texts.specs.declared.TextFault.{TextFault};
-ghost use Rattle.texts.specs.declared.TextFault.TheVariants.{Symbol as symbol-fault};
+ghost use Rattle.texts.specs.declared.TextFault.TheVariants.{Symbol as symbol_fault};
 
 use symbols::{Symbol, SymbolFault};
 
@@ -20,7 +20,7 @@ pub enum TextFault {
 }
 
 impl From<SymbolFault> for TextFault {
-    ghost from_gives = { λ symbol r. r ≡ symbol-fault symbol };
+    ghost from_gives = { λ symbol r. r ≡ symbol_fault symbol };
 
     fn from(symbol: SymbolFault) -> TextFault {
         TextFault::Symbol(symbol)
