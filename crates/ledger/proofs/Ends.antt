@@ -12,10 +12,10 @@ module _ {A : Type 0} (P : List A → Type 0) (start : P []) (more : (xs : List 
   by_ends xs = grown [] xs start
 
 module _ {A : Type 0} where
-  pub get_d_front : (xs ys : List A) (k : ℕ) (d : A) → k < length xs → get_or (xs ++ ys) k d ≡ get_or xs k d
-  get_d_front [] ys k d h = absurd (omega arith)
-  get_d_front (x ∷ xs) ys zero d h = refl
-  get_d_front (x ∷ xs) ys (suc k) d h = get_d_front xs ys k d (omega arith)
+  pub get_or_front : (xs ys : List A) (k : ℕ) (d : A) → k < length xs → get_or (xs ++ ys) k d ≡ get_or xs k d
+  get_or_front [] ys k d h = absurd (omega arith)
+  get_or_front (x ∷ xs) ys zero d h = refl
+  get_or_front (x ∷ xs) ys (suc k) d h = get_or_front xs ys k d (omega arith)
 
   pub get_or_last : (xs : List A) (x d : A) → get_or (xs ++ x ∷ []) (length xs) d ≡ x
   get_or_last [] x d = refl

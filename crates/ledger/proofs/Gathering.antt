@@ -11,7 +11,7 @@ use Rattle.ledger.specs.Ledger.{listed, position, number, list_in, lists, codes,
 use Rattle.ledger.specs.Gather.{keep, marked_before, renumber, renumbered, gather, Marked, Whole}
 use Rattle.ledger.proofs.Reading.{true_false, none_some}
 use Rattle.ledger.proofs.Canon.{Kind, is_0, is_1, is_vertex, kind, vertex_good}
-use Rattle.ledger.proofs.Ends.{by_ends, nth_last, length_snoc, get_or_last, get_d_front}
+use Rattle.ledger.proofs.Ends.{by_ends, nth_last, length_snoc, get_or_last, get_or_front}
 use Rattle.ledger.proofs.Rows.{both_ways, Known, Ledger, empty_row, one_more, known_list, number_good, number_list, list_number, listed_get_or}
 use Rattle.ledger.proofs.Drawn.{Pictured, pictured, vertices_of_more, lists_vertices_of, lists_more, not_there, comes, some_code, sound_front, look_front, codes_proper}
 use Rattle.ledger.proofs.Draws.{same_lists}
@@ -111,12 +111,12 @@ renumber_front ms more (suc (suc k)) h = ap (λ x. suc (suc x)) (before_front ms
 marked_front : (ms more : List Bool) (n : ℕ) → n ≤ length ms + 1 → Marked ms n → Marked (ms ++ more) n
 marked_front ms more zero h m = tt
 marked_front ms more (suc zero) h m = tt
-marked_front ms more (suc (suc k)) h m = get_d_front ms more k false (omega arith) ∙ m
+marked_front ms more (suc (suc k)) h m = get_or_front ms more k false (omega arith) ∙ m
 
 marked_back : (ms more : List Bool) (n : ℕ) → n ≤ length ms + 1 → Marked (ms ++ more) n → Marked ms n
 marked_back ms more zero h m = tt
 marked_back ms more (suc zero) h m = tt
-marked_back ms more (suc (suc k)) h m = sym (get_d_front ms more k false (omega arith)) ∙ m
+marked_back ms more (suc (suc k)) h m = sym (get_or_front ms more k false (omega arith)) ∙ m
 
 module _ {S : Type 0} (before : S → S → Bool) (order : Order before) where
   -- a marked list is kept, as far on as marks come before it

@@ -7,7 +7,7 @@ use Rattle.ledger.specs.Lists.{Part, Codes, none, blank, begun, Proper, same}
 use Rattle.ledger.specs.Ledger.{listed, position, number, lay, list_in}
 use Rattle.ledger.proofs.Reading.{true_false}
 use Rattle.ledger.proofs.Sets.{same_equal, same_self}
-use Rattle.ledger.proofs.Ends.{get_d_front, get_or_last, length_snoc}
+use Rattle.ledger.proofs.Ends.{get_or_front, get_or_last, length_snoc}
 
 abbrev size : {S : Type 0} → Codes S → ℕ
 size none = 0
@@ -127,7 +127,7 @@ module _ {S : Type 0} (before : S → S → Bool) (order : Order before) where
   pub list_front : (row more : List (Codes S)) (n : ℕ) → n ≤ length row + 1 → list_in (row ++ more) n ≡ list_in row n
   list_front row more zero h = refl
   list_front row more (suc zero) h = refl
-  list_front row more (suc (suc k)) h = get_d_front row more k none (omega arith)
+  list_front row more (suc (suc k)) h = get_or_front row more k none (omega arith)
 
   pub known_list : (row : List (Codes S)) (n : ℕ) → n ≤ length row + 1 → Known before row (list_in row n)
   known_list row zero h = tt
@@ -163,7 +163,7 @@ module _ {S : Type 0} (before : S → S → Bool) (order : Order before) where
       by (yes f) below = rw (f, get_or_last front (begun a z o) none) (ap (λ n. suc (suc n)) (position_last front (begun a z o) new))
       by (no f) below =
           let small : k < length front = omega (arith, more) in
-          rw (get_d_front front (begun a z o ∷ []) k none small)
+          rw (get_or_front front (begun a z o ∷ []) k none small)
           (number_front front (begun a z o ∷ []) (get_or front k none) (known_held front (get_or front k none) (listed_get_or front k none small)) ∙ below small)
 
   pub number_list : {row : List (Codes S)} → Ledger before row → (n : ℕ) → n ≤ length row + 1 → number before row (list_in row n) ≡ n

@@ -1,5 +1,5 @@
 // Worked rows of the ledger, and one kind of symbol of which all theorems hold.
-ghost use Rattle.std.specs.Prelude.{ltb, nat_lt};
+ghost use Rattle.std.specs.Prelude.{nat_lt};
 ghost use Rattle.ledger.specs.Examples.{Rows};
 ghost use Rattle.ledger.specs.Statements.{Canonical};
 ghost use Rattle.ledger.specs.declared.examples.Numeral.{Numeral};
@@ -39,7 +39,7 @@ impl Symbol for Numeral {
 
 // The theorems hold of a kind of symbol that there is.
 pub fn canonical_numerals() -> u8
-    ensures { Canonical {S = Numeral} (λ a b. ltb a.value b.value) }
+    ensures { Canonical {S = Numeral} (λ a b. nat_lt a.value b.value) }
 {
     diagrams::canonical::<Numeral>()
 }

@@ -62,14 +62,14 @@ module _ {S : Type 0} (before : S → S → Bool) (order : Order before) (capaci
     pub entry_stays : (q : Question) (n : ℕ) → RightEntry before vs q n → RightEntry before (down before vs t) q n
     entry_stays q n a =
         let g = down_grows in
-        let first_Good = a.first in
+        let first_good = a.first in
         let second_good = a.second in
         let answer_good = a.answer in
         record {
           first = omega arith;
           second = omega arith;
           answer = omega arith;
-          is = down_codes n answer_good ∙ a.is ∙ ap₂ (join before (takes q.rule)) (sym (down_codes q.first first_Good)) (sym (down_codes q.second second_good));
+          is = down_codes n answer_good ∙ a.is ∙ ap₂ (join before (takes q.rule)) (sym (down_codes q.first first_good)) (sym (down_codes q.second second_good));
         }
 
   -- members of a join are members of one of the two

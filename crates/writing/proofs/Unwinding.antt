@@ -12,7 +12,7 @@ use Rattle.ledger.specs.Diagrams.{look, Good, Sound}
 use Rattle.ledger.specs.Ledger.{listed, position, number, lay, lists, codes}
 use Rattle.ledger.proofs.Reading.{true_false, none_some}
 use Rattle.ledger.proofs.Canon.{Kind, is_0, is_1, is_vertex, kind, vertex_good}
-use Rattle.ledger.proofs.Ends.{get_d_front, get_or_last, length_snoc}
+use Rattle.ledger.proofs.Ends.{get_or_front, get_or_last, length_snoc}
 use Rattle.ledger.proofs.Rows.{both_ways, Known, known_held, listed_front, listed_get_or, position_below, get_or_position, number_list, lay_known, lay_knows, lay_new, lay_adds, known_laid, still_new}
 use Rattle.ledger.proofs.Drawn.{Pictured, pictured}
 use Rattle.writing.specs.Met.{list_at, met_numbers, Sparse, Unmet}
@@ -74,7 +74,7 @@ numbers_at ps (suc m) k h = by (ℕ_discrete k m) (numbers_at ps m k)
     by (yes e) below =
         ap (λ j. get_or (met_numbers ps m ++ list_at ps m ∷ []) j 0) (e ∙ sym (length_numbers ps m)) ∙ get_or_last (met_numbers ps m) (list_at ps m) 0 ∙ ap (list_at ps) (sym e)
     by (no f) below =
-        get_d_front (met_numbers ps m) (list_at ps m ∷ []) k 0 (omega (arith, length_numbers ps m)) ∙ below (omega arith)
+        get_or_front (met_numbers ps m) (list_at ps m ∷ []) k 0 (omega (arith, length_numbers ps m)) ∙ below (omega arith)
 
 -- the lists that are met
 abbrev pub met_lists : {S : Type 0} → List (Vertex S) → List Place → ℕ → List (Codes S)
