@@ -1,12 +1,11 @@
 -- The bucket of a vertex: some function of its label's scatter number and its links. No promise rests on which.
-use Prim.Native.Nat.{ℕ, _+_, _*_, _/_, _%_, _^_, _<_}
-use lib.Bits.{bitXor}
-use native.Mathlib.Nat.{mod-lt}
-use Rattle·ledger.specs.declared.Vertex.{Vertex}
+use Rattle.std.specs.Prelude.{ℕ, ◌+◌, ◌*◌, ◌/◌, ◌%◌, ◌^◌, ◌<◌, bit_xor}
+use Rattle.std.proofs.Common.{mod-lt}
+use Rattle.ledger.specs.declared.Vertex.{Vertex}
 
 -- the high half of a word folded onto the low one
 abbrev pub folded : ℕ → ℕ
-folded n = bitXor n (n / 2 ^ 32)
+folded n = bit_xor n (n / 2 ^ 32)
 
 unfoldable pub mixed : ℕ → ℕ → ℕ → ℕ
 mixed scatter low high =
@@ -16,8 +15,8 @@ mixed scatter low high =
 
 -- the bucket of a vertex among so many
 unfoldable pub bucket : {S : Type 0} → (S → ℕ) → ℕ → Vertex S → ℕ
-bucket scatter heads v = mixed (scatter (v .label)) (v .zero) (v .one) % heads
+bucket scatter heads v = mixed (scatter v.label) v.zero v.one % heads
 
-pub bucket-within : {S : Type 0} (scatter : S → ℕ) (heads : ℕ) (v : Vertex S) → 0 < heads → bucket scatter heads v < heads
+pub bucket_within : {S : Type 0} (scatter : S → ℕ) (heads : ℕ) (v : Vertex S) → 0 < heads → bucket scatter heads v < heads
 unfolding bucket
-bucket-within scatter heads v h = mod-lt (mixed (scatter (v .label)) (v .zero) (v .one)) h
+bucket_within scatter heads v h = mod-lt (mixed (scatter v.label) v.zero v.one) h

@@ -1,25 +1,19 @@
 // Walks over records and heads. Each ends on any memory: a step goes down, whatever `next` says.
-ghost use Prim.Native.Nat.{ℕ, _+_, _-_, _<_, _≤_, min};
-ghost use lib.Dec.{eqb};
-ghost use lib.ListN.{length, take, set, getD};
-ghost use mathlib.Core.Bool.{cond};
-ghost use mathlib.Core.Logic.{_⊎_, _≢_};
-ghost use mathlib.Core.Path.{_≡_};
-ghost use Rattle·std.specs.Options.{mapped};
-ghost use Rattle·std.specs.declared.option.Option.the-variants.{Some};
-ghost use Rattle·ledger.specs.Diagrams.{look, parts};
-ghost use Rattle·ledger.specs.Laid.{First};
-ghost use Rattle·bucket_shelf·specs.Place.{bucket};
-ghost use Rattle·bucket_shelf·specs.Chains.{vertices-in, Chained};
-use crate::Entry;
-use crate::place;
+ghost use Rattle.std.specs.Prelude.{◌≡◌, ℕ, ◌+◌, ◌-◌, ◌<◌, ◌≤◌, min, ◌≢◌, ◌⊎◌, length, take, if◌then◌else◌, Some, nat_eq, slice_index, slice_index_or, slice_set};
+ghost use Rattle.std.specs.Option.{option_map};
+ghost use Rattle.ledger.specs.Diagrams.{look, parts};
+ghost use Rattle.ledger.specs.Laid.{First};
+ghost use Rattle.bucket_shelf.specs.Place.{bucket};
+ghost use Rattle.bucket_shelf.specs.Chains.{vertices_in, Chained};
+
+use crate::{Entry, place};
 use ledger::Vertex;
 use memory::reading::same_vertex;
 use symbols::Symbol;
 
 // How many vertices there may be over so many records and heads.
 pub(crate) fn capacity(records: usize, heads: usize) -> u32
-    ensures { λ r. ⌜ r ≡ cond (eqb heads 0) 0 (min records 1000000) ⌝ }
+    ensures { result ≡ (if nat_eq heads 0 then 0 else min records 1000000) }
 {
     if heads == 0 {
         0
@@ -29,15 +23,15 @@ pub(crate) fn capacity(records: usize, heads: usize) -> u32
 }
 
 pub(crate) fn entry_at<S: Symbol>(records: &[Entry<S>], i: u32) -> Entry<S>
-    requires { ⌜ i < length (now records) ⌝ }
-    ensures { λ r. ⌜ r ≡ getD (now (records .entry)) i r ⌝ }
+    requires { i < length records.now }
+    ensures { result ≡ slice_index_or records.now i result }
 {
     records[i as usize]
 }
 
 pub(crate) fn look<S: Symbol>(records: &[Entry<S>], used: u32, n: u32) -> Option<(S, u32, u32)>
-    requires { ⌜ used ≤ length (now records) ⌝ ∗ ⌜ used ≤ 1000000 ⌝ }
-    ensures { λ r. ⌜ r ≡ mapped parts (look (take used (vertices-in (now (records .entry)))) n) ⌝ }
+    requires { (used ≤ length records.now) × (used ≤ 1000000) }
+    ensures { result ≡ option_map parts (look (take used (vertices_in records.now)) n) }
 {
     if n < 2 {
         return None;
@@ -56,8 +50,8 @@ fn passed<S: Symbol>(
     entry: Entry<S>,
     wanted: Vertex<S>,
 ) -> Option<u32>
-    requires { ⌜ top ≤ 1000000 ⌝ }
-    ensures { λ r. ⌜ ((entry .vertex ≡ wanted) × (r ≡ Some (top + 1))) ⊎ ((entry .vertex ≢ wanted) × (r ≡ found)) ⌝ }
+    requires { top ≤ 1000000 }
+    ensures { ((entry.vertex ≡ wanted) × (result ≡ Some (top + 1))) ⊎ ((entry.vertex ≢ wanted) × (result ≡ found)) }
 {
     if same_vertex(entry.vertex, wanted) {
         Some(top + 1)
@@ -75,8 +69,8 @@ pub(crate) fn find<S: Symbol>(
     at: usize,
     vertex: Vertex<S>,
 ) -> Option<u32>
-    requires { ⌜ used ≤ length (now records) ⌝ ∗ ⌜ used ≤ 1000000 ⌝ ∗ ⌜ at < length (now heads) ⌝ }
-    ensures { λ r. ⌜ (at ≡ bucket (S·Symbol .scatter) (length (now (heads .entry))) vertex → Chained (S·Symbol .scatter) (now (records .entry)) (now (heads .entry)) used → First (take used (vertices-in (now (records .entry)))) vertex r) ⌝ }
+    requires { (used ≤ length records.now) × ((used ≤ 1000000) × (at < length heads.now)) }
+    ensures { at ≡ bucket S.Symbol.scatter (length heads.now) vertex → Chained S.Symbol.scatter records.now heads.now used → First (take used (vertices_in records.now)) vertex result }
 {
     let mut found = None;
     let mut top = heads[at].min(used);
@@ -96,9 +90,9 @@ pub(crate) fn link<S: Symbol>(
     at: usize,
     vertex: Vertex<S>,
 )
-    requires { ⌜ i < length (now records) ⌝ ∗ ⌜ i < 1000000 ⌝ ∗ ⌜ at < length (now heads) ⌝ }
-    ensures vertices { λ _. ⌜ vertices-in (now (records .exit)) ≡ set (vertices-in (now (records .entry))) i vertex ⌝ }
-    ensures ready { λ _. ⌜ (at ≡ bucket (S·Symbol .scatter) (length (now (heads .entry))) vertex → Chained (S·Symbol .scatter) (now (records .entry)) (now (heads .entry)) i → Chained (S·Symbol .scatter) (now (records .exit)) (now (heads .exit)) (i + 1)) ⌝ }
+    requires { (i < length records.old) × ((i < 1000000) × (at < length heads.old)) }
+    ensures vertices { vertices_in records.new ≡ slice_set (vertices_in records.old) i vertex }
+    ensures ready { at ≡ bucket S.Symbol.scatter (length heads.old) vertex → Chained S.Symbol.scatter records.old heads.old i → Chained S.Symbol.scatter records.new heads.new (i + 1) }
 {
     let next = heads[at];
     records[i as usize] = Entry { vertex, next };
@@ -107,7 +101,7 @@ pub(crate) fn link<S: Symbol>(
 
 // Sets every head to nothing.
 pub(crate) fn clear(heads: &mut [u32])
-    ensures { λ _. ⌜ ((b : ℕ) → getD (now (heads .exit)) b 0 ≡ 0) ⌝ }
+    ensures { (b : ℕ) → slice_index heads.new b ≡ 0 }
 {
     for head in heads.iter_mut() {
         *head = 0;
@@ -116,8 +110,8 @@ pub(crate) fn clear(heads: &mut [u32])
 
 // Takes an entry off the top of its chain.
 fn drop_top<S: Symbol>(heads: &mut [u32], entry: Entry<S>)
-    requires { ⌜ 0 < length (now heads) ⌝ }
-    ensures { λ _. ⌜ now (heads .exit) ≡ set (now (heads .entry)) (bucket (S·Symbol .scatter) (length (now (heads .entry))) (entry .vertex)) (entry .next) ⌝ }
+    requires { 0 < length heads.old }
+    ensures { heads.new ≡ slice_set heads.old (bucket S.Symbol.scatter (length heads.old) entry.vertex) entry.next }
 {
     let at = place::bucket(entry.vertex, heads.len());
     heads[at] = entry.next;
@@ -125,8 +119,8 @@ fn drop_top<S: Symbol>(heads: &mut [u32], entry: Entry<S>)
 
 // Takes the vertices from index `n` on out of their chains, the last first: each is then at the top of its chain.
 pub(crate) fn unlink<S: Symbol>(records: &[Entry<S>], heads: &mut [u32], used: u32, n: u32)
-    requires { ⌜ used ≤ length (now records) ⌝ ∗ ⌜ used ≤ 1000000 ⌝ ∗ ⌜ (0 < used → 0 < length (now heads)) ⌝ }
-    ensures { λ _. ⌜ (Chained (S·Symbol .scatter) (now (records .entry)) (now (heads .entry)) used → Chained (S·Symbol .scatter) (now (records .entry)) (now (heads .exit)) (min used n)) ⌝ }
+    requires { (used ≤ length records.now) × ((used ≤ 1000000) × ((0 < used → 0 < length heads.old))) }
+    ensures { Chained S.Symbol.scatter records.now heads.old used → Chained S.Symbol.scatter records.now heads.new (min used n) }
 {
     let mut top = used;
     while top > n {
@@ -137,9 +131,9 @@ pub(crate) fn unlink<S: Symbol>(records: &[Entry<S>], heads: &mut [u32], used: u
 
 // Leaves the first `n` vertices in the chains. To leave none clears every head, whatever lay there: so a shelf begins.
 pub(crate) fn cut<S: Symbol>(records: &[Entry<S>], heads: &mut [u32], used: u32, n: u32)
-    requires { ⌜ used ≤ length (now records) ⌝ ∗ ⌜ used ≤ 1000000 ⌝ ∗ ⌜ (0 < used → 0 < length (now heads)) ⌝ }
-    ensures ready { λ _. ⌜ (Chained (S·Symbol .scatter) (now (records .entry)) (now (heads .entry)) used → Chained (S·Symbol .scatter) (now (records .entry)) (now (heads .exit)) (min used n)) ⌝ }
-    ensures anew { λ _. ⌜ (n ≡ 0 → Chained (S·Symbol .scatter) (now (records .entry)) (now (heads .exit)) 0) ⌝ }
+    requires { (used ≤ length records.now) × ((used ≤ 1000000) × ((0 < used → 0 < length heads.old))) }
+    ensures ready { Chained S.Symbol.scatter records.now heads.old used → Chained S.Symbol.scatter records.now heads.new (min used n) }
+    ensures anew { n ≡ 0 → Chained S.Symbol.scatter records.now heads.new 0 }
 {
     if n == 0 {
         clear(heads);

@@ -1,31 +1,21 @@
 // Gathering: the marked records move to the front, in chains that begin anew.
-ghost use Prim.Native.Nat.{_+_, _<_, _≤_};
-ghost use lib.ListN.{length, take, set};
-ghost use mathlib.Core.Bool.{true};
-ghost use mathlib.Core.List.{map};
-ghost use mathlib.Core.Logic.{_↔_};
-ghost use mathlib.Core.Path.{_≡_};
-ghost use Rattle·ledger.specs.Gather.{keep};
-ghost use Rattle·memory.specs.Marks.{noted-vertex, AllStay};
-ghost use Rattle·memory.specs.Shelves.{marks-in};
-ghost use Rattle·bucket_shelf·specs.Chains.{vertices-in, Chained, Gathers};
-use crate::Entry;
-use crate::chain::clear;
-use crate::chain::entry_at;
-use crate::chain::link;
-use crate::place;
+ghost use Rattle.std.specs.Prelude.{◌≡◌, ◌+◌, ◌<◌, ◌≤◌, true, ◌↔◌, map, length, take, slice_set};
+ghost use Rattle.ledger.specs.Gather.{keep};
+ghost use Rattle.memory.specs.Marks.{noted_vertex, AllStay};
+ghost use Rattle.memory.specs.Shelves.{marks_in};
+ghost use Rattle.bucket_shelf.specs.Chains.{vertices_in, Chained, Gathers};
+
+use crate::chain::{clear, entry_at, link};
+use crate::{Entry, place};
 use ledger::Vertex;
-use memory::marks::is_marked;
-use memory::marks::new_vertex;
-use memory::marks::number_marks;
-use memory::marks::vertex_stays;
+use memory::marks::{is_marked, new_vertex, number_marks, vertex_stays};
 use memory::work::Place;
 use symbols::Symbol;
 
 // Whether each marked vertex has links to terminals and to marked vertices below it alone.
 pub(crate) fn all_stay<S: Symbol>(records: &[Entry<S>], used: u32, marks: &[Place]) -> bool
-    requires { ⌜ used ≤ length (now records) ⌝ ∗ ⌜ used ≤ 1000000 ⌝ }
-    ensures { λ r. ⌜ (r ≡ true) ↔ AllStay (marks-in (now (marks .entry))) (take used (vertices-in (now (records .entry)))) ⌝ }
+    requires { (used ≤ length records.now) × (used ≤ 1000000) }
+    ensures { (result ≡ true) ↔ AllStay (marks_in marks.now) (take used (vertices_in records.now)) }
 {
     for i in 0..used {
         let entry = entry_at(records, i);
@@ -44,9 +34,9 @@ fn keep_vertex<S: Symbol>(
     marks: &[Place],
     vertex: Vertex<S>,
 )
-    requires { ⌜ to < length (now records) ⌝ ∗ ⌜ to < 1000000 ⌝ ∗ ⌜ 0 < length (now heads) ⌝ }
-    ensures vertices { λ _. ⌜ vertices-in (now (records .exit)) ≡ set (vertices-in (now (records .entry))) to (noted-vertex (now (marks .entry)) vertex) ⌝ }
-    ensures ready { λ _. ⌜ (Chained (S·Symbol .scatter) (now (records .entry)) (now (heads .entry)) to → Chained (S·Symbol .scatter) (now (records .exit)) (now (heads .exit)) (to + 1)) ⌝ }
+    requires { (to < length records.old) × ((to < 1000000) × (0 < length heads.old)) }
+    ensures vertices { vertices_in records.new ≡ slice_set (vertices_in records.old) to (noted_vertex marks.now vertex) }
+    ensures ready { Chained S.Symbol.scatter records.old heads.old to → Chained S.Symbol.scatter records.new heads.new (to + 1) }
 {
     let kept = new_vertex(marks, vertex);
     let at = place::bucket(kept, heads.len());
@@ -60,10 +50,10 @@ pub(crate) fn keep<S: Symbol>(
     used: u32,
     marks: &[Place],
 ) -> u32
-    requires { ⌜ used ≤ length (now records) ⌝ ∗ ⌜ used ≤ 1000000 ⌝ ∗ ⌜ length (now marks) ≡ used ⌝ ∗ ⌜ (0 < used → 0 < length (now heads)) ⌝ }
-    ensures few { λ r. ⌜ r ≤ used ⌝ }
-    ensures vertices { λ r. ⌜ take r (vertices-in (now (records .exit))) ≡ map (noted-vertex (now (marks .entry))) (keep (marks-in (now (marks .entry))) (take used (vertices-in (now (records .entry))))) ⌝ }
-    ensures ready { λ r. ⌜ Chained (S·Symbol .scatter) (now (records .exit)) (now (heads .exit)) r ⌝ }
+    requires { (used ≤ length records.old) × ((used ≤ 1000000) × ((length marks.now ≡ used) × ((0 < used → 0 < length heads.old)))) }
+    ensures few { result ≤ used }
+    ensures vertices { take result (vertices_in records.new) ≡ map (noted_vertex marks.now) (keep (marks_in marks.now) (take used (vertices_in records.old))) }
+    ensures ready { Chained S.Symbol.scatter records.new heads.new result }
 {
     clear(heads);
     let mut to: u32 = 0;
@@ -84,8 +74,8 @@ pub(crate) fn gather<S: Symbol>(
     used: u32,
     marks: &mut [Place],
 ) -> Option<u32>
-    requires { ⌜ used ≤ length (now records) ⌝ ∗ ⌜ used ≤ 1000000 ⌝ ∗ ⌜ (0 < used → 0 < length (now heads)) ⌝ }
-    ensures { λ r. ⌜ Gathers (S·Symbol .scatter) used (now (marks .entry)) (now (records .entry)) (now (heads .entry)) r (now (marks .exit)) (now (records .exit)) (now (heads .exit)) ⌝ }
+    requires { (used ≤ length records.old) × ((used ≤ 1000000) × ((0 < used → 0 < length heads.old))) }
+    ensures { Gathers S.Symbol.scatter used marks.old records.old heads.old result marks.new records.new heads.new }
 {
     if marks.len() != used as usize {
         return None;

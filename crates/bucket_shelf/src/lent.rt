@@ -1,14 +1,10 @@
 // The two runs that a bucket shelf is lent, each in a struct of its own, so that both can be lent on in one call.
-ghost use Prim.Native.Nat.{_+_, _<_, _≤_, min};
-ghost use lib.ListN.{length, set, take};
-ghost use mathlib.Core.Path.{_≡_};
-ghost use denote.Ref.{now};
-ghost use Rattle·ledger.specs.Laid.{First};
-ghost use Rattle·bucket_shelf·specs.Place.{bucket};
-ghost use Rattle·bucket_shelf·specs.Chains.{vertices-in, Chained, Gathers};
-use crate::Entry;
-use crate::chain;
-use crate::gather;
+ghost use Rattle.std.specs.Prelude.{◌≡◌, ◌+◌, ◌<◌, ◌≤◌, min, length, take, slice_set};
+ghost use Rattle.ledger.specs.Laid.{First};
+ghost use Rattle.bucket_shelf.specs.Place.{bucket};
+ghost use Rattle.bucket_shelf.specs.Chains.{vertices_in, Chained, Gathers};
+
+use crate::{Entry, chain, gather};
 use ledger::Vertex;
 use memory::work::Place;
 use symbols::Symbol;
@@ -30,8 +26,8 @@ pub(crate) fn find<S: Symbol>(
     at: usize,
     vertex: Vertex<S>,
 ) -> Option<u32>
-    requires { ⌜ used ≤ length (now (now records .at)) ⌝ ∗ ⌜ used ≤ 1000000 ⌝ ∗ ⌜ at < length (now (now heads .at)) ⌝ }
-    ensures { λ r. ⌜ (at ≡ bucket (S·Symbol .scatter) (length (now (now (heads .entry) .at))) vertex → Chained (S·Symbol .scatter) (now (now (records .entry) .at)) (now (now (heads .entry) .at)) used → First (take used (vertices-in (now (now (records .entry) .at)))) vertex r) ⌝ }
+    requires { (used ≤ length records.now.at.now) × ((used ≤ 1000000) × (at < length heads.now.at.now)) }
+    ensures { at ≡ bucket S.Symbol.scatter (length heads.now.at.now) vertex → Chained S.Symbol.scatter records.now.at.now heads.now.at.now used → First (take used (vertices_in records.now.at.now)) vertex result }
 {
     chain::find(records.at, heads.at, used, at, vertex)
 }
@@ -43,20 +39,20 @@ pub(crate) fn link<S: Symbol>(
     at: usize,
     vertex: Vertex<S>,
 )
-    requires { ⌜ i < length (now (now records .at)) ⌝ ∗ ⌜ i < 1000000 ⌝ ∗ ⌜ at < length (now (now heads .at)) ⌝ }
-    ensures long { λ _. ⌜ length (now (now (records .exit) .at)) ≡ length (now (now (records .entry) .at)) ⌝ }
-    ensures wide { λ _. ⌜ length (now (now (heads .exit) .at)) ≡ length (now (now (heads .entry) .at)) ⌝ }
-    ensures vertices { λ _. ⌜ vertices-in (now (now (records .exit) .at)) ≡ set (vertices-in (now (now (records .entry) .at))) i vertex ⌝ }
-    ensures ready { λ _. ⌜ (at ≡ bucket (S·Symbol .scatter) (length (now (now (heads .entry) .at))) vertex → Chained (S·Symbol .scatter) (now (now (records .entry) .at)) (now (now (heads .entry) .at)) i → Chained (S·Symbol .scatter) (now (now (records .exit) .at)) (now (now (heads .exit) .at)) (i + 1)) ⌝ }
+    requires { (i < length records.old.at.now) × ((i < 1000000) × (at < length heads.old.at.now)) }
+    ensures long { length records.new.at.now ≡ length records.old.at.now }
+    ensures wide { length heads.new.at.now ≡ length heads.old.at.now }
+    ensures vertices { vertices_in records.new.at.now ≡ slice_set (vertices_in records.old.at.now) i vertex }
+    ensures ready { at ≡ bucket S.Symbol.scatter (length heads.old.at.now) vertex → Chained S.Symbol.scatter records.old.at.now heads.old.at.now i → Chained S.Symbol.scatter records.new.at.now heads.new.at.now (i + 1) }
 {
     chain::link(records.at, heads.at, i, at, vertex);
 }
 
 pub(crate) fn cut<S: Symbol>(records: &Records<S>, heads: &mut Heads, used: u32, n: u32)
-    requires { ⌜ used ≤ length (now (now records .at)) ⌝ ∗ ⌜ used ≤ 1000000 ⌝ ∗ ⌜ (0 < used → 0 < length (now (now heads .at))) ⌝ }
-    ensures wide { λ _. ⌜ length (now (now (heads .exit) .at)) ≡ length (now (now (heads .entry) .at)) ⌝ }
-    ensures ready { λ _. ⌜ (Chained (S·Symbol .scatter) (now (now (records .entry) .at)) (now (now (heads .entry) .at)) used → Chained (S·Symbol .scatter) (now (now (records .entry) .at)) (now (now (heads .exit) .at)) (min used n)) ⌝ }
-    ensures anew { λ _. ⌜ (n ≡ 0 → Chained (S·Symbol .scatter) (now (now (records .entry) .at)) (now (now (heads .exit) .at)) 0) ⌝ }
+    requires { (used ≤ length records.now.at.now) × ((used ≤ 1000000) × ((0 < used → 0 < length heads.old.at.now))) }
+    ensures wide { length heads.new.at.now ≡ length heads.old.at.now }
+    ensures ready { Chained S.Symbol.scatter records.now.at.now heads.old.at.now used → Chained S.Symbol.scatter records.now.at.now heads.new.at.now (min used n) }
+    ensures anew { n ≡ 0 → Chained S.Symbol.scatter records.now.at.now heads.new.at.now 0 }
 {
     chain::cut(records.at, heads.at, used, n);
 }
@@ -67,10 +63,10 @@ pub(crate) fn gather<S: Symbol>(
     used: u32,
     marks: &mut [Place],
 ) -> Option<u32>
-    requires { ⌜ used ≤ length (now (now records .at)) ⌝ ∗ ⌜ used ≤ 1000000 ⌝ ∗ ⌜ (0 < used → 0 < length (now (now heads .at))) ⌝ }
-    ensures long { λ _. ⌜ length (now (now (records .exit) .at)) ≡ length (now (now (records .entry) .at)) ⌝ }
-    ensures wide { λ _. ⌜ length (now (now (heads .exit) .at)) ≡ length (now (now (heads .entry) .at)) ⌝ }
-    ensures answer { λ r. ⌜ Gathers (S·Symbol .scatter) used (now (marks .entry)) (now (now (records .entry) .at)) (now (now (heads .entry) .at)) r (now (marks .exit)) (now (now (records .exit) .at)) (now (now (heads .exit) .at)) ⌝ }
+    requires { (used ≤ length records.old.at.now) × ((used ≤ 1000000) × ((0 < used → 0 < length heads.old.at.now))) }
+    ensures long { length records.new.at.now ≡ length records.old.at.now }
+    ensures wide { length heads.new.at.now ≡ length heads.old.at.now }
+    ensures answer { Gathers S.Symbol.scatter used marks.old records.old.at.now heads.old.at.now result marks.new records.new.at.now heads.new.at.now }
 {
     gather::gather(records.at, heads.at, used, marks)
 }

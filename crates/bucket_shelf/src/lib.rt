@@ -4,24 +4,17 @@
 // Promise: any records and any heads will do, whatever lies in them; from the first cut to 0 on, the chains fit the
 // vertices. Cost: a look is one step; a find or an append is a chain's length, a few steps while there are about as many
 // heads as vertices; a cut is what it cuts, but to 0 it is the heads; to gather is the vertices and the heads.
-ghost use Prim.Native.Nat.{_+_, _<_, min};
-ghost use denote.Ref.{now};
-ghost use lib.ListN.{length, take};
-ghost use mathlib.Core.Bool.{true, cond};
-ghost use mathlib.Core.List.{[]};
-ghost use mathlib.Core.Logic.{_↔_};
-ghost use mathlib.Core.Path.{_≡_};
-ghost use Rattle·std.specs.declared.result.Result.the-variants.{Ok};
-ghost use Rattle·ledger.specs.Gather.{gather, Gatherable};
-ghost use Rattle·memory.specs.Shelves.{Appends, FoundOrAppended, marks-in, Renumbered};
-ghost use Rattle·bucket_shelf·specs.Place.{bucket};
-ghost use Rattle·bucket_shelf·specs.Shelves.{records-of, heads-of, room-of, vertices-of, Ready, bounds-of};
-use crate::lent::Heads;
-use crate::lent::Records;
+#![tactic(auto)]
+
+ghost use Rattle.std.specs.Prelude.{◌≡◌, ◌+◌, ◌<◌, min, true, ◌↔◌, [], length, take, if◌then◌else◌, Ok};
+ghost use Rattle.ledger.specs.Gather.{gather, Gatherable};
+ghost use Rattle.memory.specs.Shelves.{Appends, FoundOrAppended, marks_in, Renumbered};
+ghost use Rattle.bucket_shelf.specs.Place.{bucket};
+ghost use Rattle.bucket_shelf.specs.Shelves.{records_of, heads_of, room_of, vertices_of, Ready, bounds_of};
+
+use crate::lent::{Heads, Records};
 use ledger::Vertex;
-use ledger::VertexClone;
-use memory::shelf::Full;
-use memory::shelf::Shelf;
+use memory::shelf::{Full, Shelf};
 use memory::work::Place;
 use symbols::Symbol;
 
@@ -48,9 +41,9 @@ pub struct BucketShelf<'a, S> {
 impl<'a, S: Symbol> BucketShelf<'a, S> {
     // An empty shelf over this memory, whatever it holds; a cut to 0 makes it ready.
     pub fn new(records: &'a mut [Entry<S>], heads: &'a mut [u32]) -> BucketShelf<'a, S>
-        ensures vertices { λ r. ⌜ vertices-of r ≡ [] ⌝ }
-        ensures records { λ r. ⌜ records-of r ≡ now (records .entry) ⌝ }
-        ensures heads { λ r. ⌜ heads-of r ≡ now (heads .entry) ⌝ }
+        ensures vertices { vertices_of result ≡ [] }
+        ensures records { records_of result ≡ records.old }
+        ensures heads { heads_of result ≡ heads.old }
     {
         BucketShelf {
             records: Records { at: records },
@@ -61,25 +54,25 @@ impl<'a, S: Symbol> BucketShelf<'a, S> {
 
     // How many vertices there may be.
     fn room(&self) -> u32
-        ensures { λ r. ⌜ r ≡ room-of (now (self .entry)) ⌝ }
+        ensures { result ≡ room_of self.now }
     {
         chain::capacity(self.records.at.len(), self.heads.at.len())
     }
 
     // How many records hold vertices.
     fn in_use(&self) -> u32
-        ensures value { λ r. ⌜ r ≡ min (now (self .entry) .used) (room-of (now (self .entry))) ⌝ }
-        ensures count { λ r. ⌜ r ≡ length (vertices-of (now (self .entry))) ⌝ }
+        ensures value { result ≡ min self.now.used (room_of self.now) }
+        ensures count { result ≡ length (vertices_of self.now) }
     {
         self.used.min(self.room())
     }
 
     // One vertex more, in bucket `at`.
     fn push(&mut self, at: usize, vertex: Vertex<S>) -> u32
-        requires { ⌜ length (vertices-of (now self)) < room-of (now self) ⌝ ∗ ⌜ at < length (heads-of (now self)) ⌝ }
-        ensures answer { λ r. ⌜ Appends (room-of (now (self .entry))) (vertices-of (now (self .entry))) vertex (Ok r) (vertices-of (now (self .exit))) ⌝ }
-        ensures ready { λ _. ⌜ (at ≡ bucket (S·Symbol .scatter) (length (heads-of (now (self .entry)))) vertex → Ready (S·Symbol .scatter) (now (self .entry)) → Ready (S·Symbol .scatter) (now (self .exit))) ⌝ }
-        ensures size { λ _. ⌜ room-of (now (self .exit)) ≡ room-of (now (self .entry)) ⌝ }
+        requires { (length (vertices_of self.old) < room_of self.old) × (at < length (heads_of self.old)) }
+        ensures answer { Appends (room_of self.old) (vertices_of self.old) vertex (Ok result) (vertices_of self.new) }
+        ensures ready { at ≡ bucket S.Symbol.scatter (length (heads_of self.old)) vertex → Ready S.Symbol.scatter self.old → Ready S.Symbol.scatter self.new }
+        ensures size { room_of self.new ≡ room_of self.old }
     {
         let used = self.in_use();
         lent::link(&mut self.records, &mut self.heads, used, at, vertex);
@@ -89,10 +82,10 @@ impl<'a, S: Symbol> BucketShelf<'a, S> {
 
     // The number of this vertex, found in bucket `at` or put there.
     fn find_or_push(&mut self, at: usize, vertex: Vertex<S>) -> Result<u32, Full>
-        requires { ⌜ at < length (heads-of (now self)) ⌝ }
-        ensures answer { λ r. ⌜ (at ≡ bucket (S·Symbol .scatter) (length (heads-of (now (self .entry)))) vertex → Ready (S·Symbol .scatter) (now (self .entry)) → FoundOrAppended (room-of (now (self .entry))) (vertices-of (now (self .entry))) vertex r (vertices-of (now (self .exit)))) ⌝ }
-        ensures ready { λ _. ⌜ (at ≡ bucket (S·Symbol .scatter) (length (heads-of (now (self .entry)))) vertex → Ready (S·Symbol .scatter) (now (self .entry)) → Ready (S·Symbol .scatter) (now (self .exit))) ⌝ }
-        ensures size { λ _. ⌜ room-of (now (self .exit)) ≡ room-of (now (self .entry)) ⌝ }
+        requires { at < length (heads_of self.old) }
+        ensures answer { at ≡ bucket S.Symbol.scatter (length (heads_of self.old)) vertex → Ready S.Symbol.scatter self.old → FoundOrAppended (room_of self.old) (vertices_of self.old) vertex result (vertices_of self.new) }
+        ensures ready { at ≡ bucket S.Symbol.scatter (length (heads_of self.old)) vertex → Ready S.Symbol.scatter self.old → Ready S.Symbol.scatter self.new }
+        ensures size { room_of self.new ≡ room_of self.old }
     {
         let used = self.in_use();
         match lent::find(&self.records, &self.heads, used, at, vertex) {
@@ -108,10 +101,10 @@ impl<'a, S: Symbol> BucketShelf<'a, S> {
 
     // The first n vertices stay, and the chains lose the others.
     fn keep_first(&mut self, n: u32)
-        ensures vertices { λ _. ⌜ vertices-of (now (self .exit)) ≡ take n (vertices-of (now (self .entry))) ⌝ }
-        ensures ready { λ _. ⌜ (Ready (S·Symbol .scatter) (now (self .entry)) → Ready (S·Symbol .scatter) (now (self .exit))) ⌝ }
-        ensures anew { λ _. ⌜ (n ≡ 0 → Ready (S·Symbol .scatter) (now (self .exit))) ⌝ }
-        ensures size { λ _. ⌜ room-of (now (self .exit)) ≡ room-of (now (self .entry)) ⌝ }
+        ensures vertices { vertices_of self.new ≡ take n (vertices_of self.old) }
+        ensures ready { Ready S.Symbol.scatter self.old → Ready S.Symbol.scatter self.new }
+        ensures anew { n ≡ 0 → Ready S.Symbol.scatter self.new }
+        ensures size { room_of self.new ≡ room_of self.old }
     {
         let used = self.in_use();
         lent::cut(&self.records, &mut self.heads, used, n);
@@ -120,11 +113,11 @@ impl<'a, S: Symbol> BucketShelf<'a, S> {
 
     // The marked vertices stay, renumbered, in chains built anew.
     fn keep_marked(&mut self, marks: &mut [Place]) -> bool
-        ensures answer { λ r. ⌜ (r ≡ true) ↔ Gatherable (marks-in (now (marks .entry))) (vertices-of (now (self .entry))) ⌝ }
-        ensures vertices { λ r. ⌜ vertices-of (now (self .exit)) ≡ cond r (gather (marks-in (now (marks .entry))) (vertices-of (now (self .entry)))) (vertices-of (now (self .entry))) ⌝ }
-        ensures numbers { λ r. ⌜ (r ≡ true → Renumbered (now (marks .entry)) (now (marks .exit))) ⌝ }
-        ensures ready { λ _. ⌜ (Ready (S·Symbol .scatter) (now (self .entry)) → Ready (S·Symbol .scatter) (now (self .exit))) ⌝ }
-        ensures size { λ _. ⌜ room-of (now (self .exit)) ≡ room-of (now (self .entry)) ⌝ }
+        ensures answer { (result ≡ true) ↔ Gatherable (marks_in marks.old) (vertices_of self.old) }
+        ensures vertices { vertices_of self.new ≡ (if result then gather (marks_in marks.old) (vertices_of self.old) else vertices_of self.old) }
+        ensures numbers { result ≡ true → Renumbered marks.old marks.new }
+        ensures ready { Ready S.Symbol.scatter self.old → Ready S.Symbol.scatter self.new }
+        ensures size { room_of self.new ≡ room_of self.old }
     {
         let used = self.in_use();
         match lent::gather(&mut self.records, &mut self.heads, used, marks) {
@@ -137,14 +130,14 @@ impl<'a, S: Symbol> BucketShelf<'a, S> {
     }
 }
 
-pub impl<'a, S: Symbol> Shelf<S> for BucketShelf<'a, S> as BucketShelfShelf {
-    ghost vertices = { λ s. vertices-of s };
+impl<'a, S: Symbol> Shelf<S> for BucketShelf<'a, S> {
+    ghost vertices = { λ s. vertices_of s };
 
-    ghost capacity = { λ s. room-of s };
+    ghost capacity = { λ s. room_of s };
 
-    ghost ready = { λ s. Ready (S·Symbol .scatter) s };
+    ghost ready = { λ s. Ready S.Symbol.scatter s };
 
-    ghost bounds = { λ s. bounds-of s };
+    ghost bounds = { λ s. bounds_of s };
 
     fn capacity(&self) -> u32 {
         self.room()

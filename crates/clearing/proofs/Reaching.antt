@@ -1,60 +1,55 @@
 -- From the last number down marks spread over links, and in the end they keep just what is reached from the keep-list.
-use Prim.Native.Nat.{ℕ, zero, suc, _+_, _<_, _≤_}
-use mathlib.Core.Bool.{Bool, true, false}
-use mathlib.Core.List.{List, [], _∷_, List·Memᴰ}
-use mathlib.Core.Logic.{_⊎_, inl, inr}
-use mathlib.Core.Path.{_≡_, refl, sym, ap, subst, subst⁻¹, _∙_}
-use native.Mathlib.Omega.{arith}
-use lib.ListN.{length, getD}
-use Rattle·std.specs.declared.option.Option.the-variants.{Some, None}
-use Rattle·std.proofs.shelf.Tests.{cases-eq}
-use Rattle·ledger.specs.declared.Vertex.{Vertex}
-use Rattle·ledger.specs.Diagrams.{look, Formed, Reached, itself, over-zero, over-one}
-use Rattle·ledger.specs.Gather.{Gatherable, Keeps, Marked}
-use Rattle·ledger.proofs.Reading.{some-same, none-some, true-false}
-use Rattle·ledger.proofs.Canon.{vertex-good}
-use Rattle·ledger.proofs.Least.{vertex-from-2}
-use Rattle·clearing·specs.Spreading.{Spread, Visited, with-mark, with-marks}
-use Rattle·clearing·proofs.Marks.{Unmarked, mark-stays, mark-here, mark-cases, length-mark, marks-here, marks-cases, length-marks}
+use Rattle.std.proofs.Common.{◌≡◌, ℕ, zero, suc, ◌+◌, ◌<◌, ◌≤◌, Bool, ◌⊎◌, List, length, Some, None, sym, refl, ◌∙◌, subst, inl, inr, arith}
+use mathlib.Core.List.{Memᴰ}
+use mathlib.Core.Path.{subst⁻¹}
+use Rattle.std.proofs.lemmas.Bool.{cases_eq}
+use Rattle.ledger.specs.declared.Vertex.{Vertex}
+use Rattle.ledger.specs.Diagrams.{look, Formed, Reached, itself, over_zero, over_one}
+use Rattle.ledger.specs.Gather.{Gatherable, Keeps, Marked}
+use Rattle.ledger.proofs.Reading.{some_same, none_some, true_false}
+use Rattle.ledger.proofs.Canon.{vertex_good}
+use Rattle.ledger.proofs.Least.{vertex_from_2}
+use Rattle.clearing.specs.Spreading.{Spread, Visited, with_mark, with_marks}
+use Rattle.clearing.proofs.Marks.{Unmarked, mark_stays, mark_here, mark_cases, length_mark, marks_here, marks_cases, length_marks}
 
 -- what is reached from what is reached is reached
-reached-then : {S : Type 0} {vs : List (Vertex S)} {a b k : ℕ} → Reached vs a b → Reached vs b k → Reached vs a k
-reached-then {vs = vs} {k = k} (itself v p e) r = subst⁻¹ (λ n. Reached vs n k) e r
-reached-then (over-zero v p q) r = over-zero v p (reached-then q r)
-reached-then (over-one v p q) r = over-one v p (reached-then q r)
+reached_then : {S : Type 0} {vs : List (Vertex S)} {a b k : ℕ} → Reached vs a b → Reached vs b k → Reached vs a k
+reached_then {vs = vs} {k = k} (itself v p e) r = subst⁻¹ (λ n. Reached vs n k) e r
+reached_then (over_zero v p q) r = over_zero v p (reached_then q r)
+reached_then (over_one v p q) r = over_one v p (reached_then q r)
 
 -- only a vertex reaches anything
-reached-by : {S : Type 0} {vs : List (Vertex S)} {n k : ℕ} → Reached vs n k → (v : Vertex S) × (look vs n ≡ Some v)
-reached-by (itself v p e) = (v, p)
-reached-by (over-zero v p r) = (v, p)
-reached-by (over-one v p r) = (v, p)
+reached_by : {S : Type 0} {vs : List (Vertex S)} {n k : ℕ} → Reached vs n k → (v : Vertex S) × (look vs n ≡ Some v)
+reached_by (itself v p e) = (v, p)
+reached_by (over_zero v p r) = (v, p)
+reached_by (over_one v p r) = (v, p)
 
 module _ {S : Type 0} (vs : List (Vertex S)) where
-  never-marked : (ms : List Bool) (k : ℕ) (v : Vertex S) → Unmarked ms → look vs k ≡ Some v → Marked ms k → ⊥
-  never-marked ms zero v un p m = none-some refl p
-  never-marked ms (suc zero) v un p m = none-some refl p
-  never-marked ms (suc (suc i)) v un p m = true-false m (un i)
+  never_marked : (ms : List Bool) (k : ℕ) (v : Vertex S) → Unmarked ms → look vs k ≡ Some v → Marked ms k → ⊥
+  never_marked ms zero v un p m = none_some refl p
+  never_marked ms (suc zero) v un p m = none_some refl p
+  never_marked ms (suc (suc i)) v un p m = true_false m (un i)
 
-  pub spread-start : (keep : List ℕ) (ms : List Bool) → length ms ≡ length vs → Unmarked ms → Spread vs keep (length vs + 2) (with-marks ms keep)
-  spread-start keep ms l un =
+  pub spread_start : (keep : List ℕ) (ms : List Bool) → length ms ≡ length vs → Unmarked ms → Spread vs keep (length vs + 2) (with_marks ms keep)
+  spread_start keep ms l un =
       record {
-        numbered = length-marks keep ms ∙ l;
-        reached = λ k v p m. by k v p (marks-cases keep ms k m);
-        kept = λ k v p i. let g = vertex-good vs k v p in marks-here keep ms k i (omega arith);
-        links = λ k v h p m. let g = vertex-good vs k v p in absurd (omega arith);
+        numbered = length_marks keep ms ∙ l;
+        reached = λ k v p m. by k v p (marks_cases keep ms k m);
+        kept = λ k v p i. let g = vertex_good vs k v p in marks_here keep ms k i (omega arith);
+        links = λ k v h p m. let g = vertex_good vs k v p in absurd (omega arith);
       }
     where
-      by : (k : ℕ) (v : Vertex S) → look vs k ≡ Some v → List·Memᴰ k keep ⊎ Marked ms k → (j : ℕ) × List·Memᴰ j keep × Reached vs j k
+      by : (k : ℕ) (v : Vertex S) → look vs k ≡ Some v → Memᴰ k keep ⊎ Marked ms k → (j : ℕ) × Memᴰ j keep × Reached vs j k
       by k v p (inl i) = (k, i, itself v p refl)
-      by k v p (inr m) = absurd (never-marked ms k v un p m)
+      by k v p (inr m) = absurd (never_marked ms k v un p m)
 
-  pub spread-on : (keep : List ℕ) (ms : List Bool) (m n : ℕ) → m ≤ n → Spread vs keep m ms → Spread vs keep n ms
-  spread-on keep ms m n h K =
+  pub spread_on : (keep : List ℕ) (ms : List Bool) (m n : ℕ) → m ≤ n → Spread vs keep m ms → Spread vs keep n ms
+  spread_on keep ms m n h K =
       record {
-        numbered = K .numbered;
-        reached = K .reached;
-        kept = K .kept;
-        links = λ k v l p a. K .links k v (omega arith) p a;
+        numbered = K.numbered;
+        reached = K.reached;
+        kept = K.kept;
+        links = λ k v l p a. K.links k v (omega arith) p a;
       }
 
 module _ {S : Type 0} (before : S → S → Bool) (vs : List (Vertex S)) (formed : Formed before vs) (keep : List ℕ) where
@@ -63,112 +58,112 @@ module _ {S : Type 0} (before : S → S → Bool) (vs : List (Vertex S)) (formed
     passed : (Marked ms n → ⊥) ⊎ (look vs n ≡ None) → Spread vs keep n ms
     passed here =
         record {
-          numbered = K .numbered;
-          reached = K .reached;
-          kept = K .kept;
-          links = λ k v h p m. by k v h p m (cases-eq k n);
+          numbered = K.numbered;
+          reached = K.reached;
+          kept = K.kept;
+          links = λ k v h p m. by k v h p m (cases_eq k n);
         }
       where
         never : (v : Vertex S) → look vs n ≡ Some v → Marked ms n → (Marked ms n → ⊥) ⊎ (look vs n ≡ None) → ⊥
         never v p m (inl f) = f m
-        never v p m (inr f) = none-some f p
+        never v p m (inr f) = none_some f p
 
-        by : (k : ℕ) (v : Vertex S) → n ≤ k → look vs k ≡ Some v → Marked ms k → (k ≡ n) ⊎ (k ≡ n → ⊥) → Marked ms (v .zero) × Marked ms (v .one)
+        by : (k : ℕ) (v : Vertex S) → n ≤ k → look vs k ≡ Some v → Marked ms k → (k ≡ n) ⊎ (k ≡ n → ⊥) → Marked ms v.zero × Marked ms v.one
         by k v h p m (inl e) = absurd (never v (subst (λ x. look vs x ≡ Some v) e p) (subst (Marked ms) e m) here)
-        by k v h p m (inr f) = K .links k v (omega arith) p m
+        by k v h p m (inr f) = K.links k v (omega arith) p m
 
-    module _ (v : Vertex S) (at-n : look vs n ≡ Some v) (marked : Marked ms n) where
-      zero-low : v .zero < n
-      zero-low = formed .zero-below n v at-n
+    module _ (v : Vertex S) (at_n : look vs n ≡ Some v) (marked : Marked ms n) where
+      zero_low : v.zero < n
+      zero_low = formed.zero_below n v at_n
 
-      one-low : v .one < n
-      one-low = formed .one-below n v at-n
+      one_low : v.one < n
+      one_low = formed.one_below n v at_n
 
       abbrev half : List Bool
-      half = with-mark ms (v .zero)
+      half = with_mark ms v.zero
 
       abbrev both : List Bool
-      both = with-mark half (v .one)
+      both = with_mark half v.one
 
-      both-stay : (k : ℕ) → Marked ms k → Marked both k
-      both-stay k m = mark-stays half (v .one) k (mark-stays ms (v .zero) k m)
+      both_stay : (k : ℕ) → Marked ms k → Marked both k
+      both_stay k m = mark_stays half v.one k (mark_stays ms v.zero k m)
 
-      zero-marked : Marked both (v .zero)
-      zero-marked =
-          let g = vertex-good vs n v at-n in
-          mark-stays half (v .one) (v .zero) (mark-here ms (v .zero) (omega (arith, zero-low, K .numbered)))
+      zero_marked : Marked both v.zero
+      zero_marked =
+          let g = vertex_good vs n v at_n in
+          mark_stays half v.one v.zero (mark_here ms v.zero (omega (arith, zero_low, K.numbered)))
 
-      one-marked : Marked both (v .one)
-      one-marked =
-          let g = vertex-good vs n v at-n in
-          mark-here half (v .one) (omega (arith, one-low, K .numbered, length-mark ms (v .zero)))
+      one_marked : Marked both v.one
+      one_marked =
+          let g = vertex_good vs n v at_n in
+          mark_here half v.one (omega (arith, one_low, K.numbered, length_mark ms v.zero))
 
       -- a mark from n on is an old one
-      was-marked : (k : ℕ) → n ≤ k → Marked both k → Marked ms k
-      was-marked k h m = by-one (mark-cases half (v .one) k m)
+      was_marked : (k : ℕ) → n ≤ k → Marked both k → Marked ms k
+      was_marked k h m = by_one (mark_cases half v.one k m)
         where
-          by-zero : (k ≡ v .zero) ⊎ Marked ms k → Marked ms k
-          by-zero (inl e) = absurd (omega (arith, zero-low))
-          by-zero (inr a) = a
+          by_zero : (k ≡ v.zero) ⊎ Marked ms k → Marked ms k
+          by_zero (inl e) = absurd (omega (arith, zero_low))
+          by_zero (inr a) = a
 
-          by-one : (k ≡ v .one) ⊎ Marked half k → Marked ms k
-          by-one (inl e) = absurd (omega (arith, one-low))
-          by-one (inr a) = by-zero (mark-cases ms (v .zero) k a)
+          by_one : (k ≡ v.one) ⊎ Marked half k → Marked ms k
+          by_one (inl e) = absurd (omega (arith, one_low))
+          by_one (inr a) = by_zero (mark_cases ms v.zero k a)
 
-      came-to : Spread vs keep n both
-      came-to =
+      came_to : Spread vs keep n both
+      came_to =
           record {
-            numbered = length-mark half (v .one) ∙ length-mark ms (v .zero) ∙ K .numbered;
-            reached = λ k w p m. by-one k w p (mark-cases half (v .one) k m);
-            kept = λ k w p i. both-stay k (K .kept k w p i);
-            links = λ k w h p m. by k w h p (was-marked k h m) (cases-eq k n);
+            numbered = length_mark half v.one ∙ length_mark ms v.zero ∙ K.numbered;
+            reached = λ k w p m. by_one k w p (mark_cases half v.one k m);
+            kept = λ k w p i. both_stay k (K.kept k w p i);
+            links = λ k w h p m. by k w h p (was_marked k h m) (cases_eq k n);
           }
         where
-          from : (j : ℕ) × List·Memᴰ j keep × Reached vs j n
-          from = K .reached n v at-n marked
+          from : (j : ℕ) × Memᴰ j keep × Reached vs j n
+          from = K.reached n v at_n marked
 
-          by-zero : (k : ℕ) (w : Vertex S) → look vs k ≡ Some w → (k ≡ v .zero) ⊎ Marked ms k → (j : ℕ) × List·Memᴰ j keep × Reached vs j k
-          by-zero k w p (inl e) = (from .0, from .1, reached-then (from .2) (over-zero v at-n (itself w (subst (λ x. look vs x ≡ Some w) e p) (sym e))))
-          by-zero k w p (inr a) = K .reached k w p a
+          by_zero : (k : ℕ) (w : Vertex S) → look vs k ≡ Some w → (k ≡ v.zero) ⊎ Marked ms k → (j : ℕ) × Memᴰ j keep × Reached vs j k
+          by_zero k w p (inl e) = (from.0, from.1, reached_then from.2 (over_zero v at_n (itself w (subst (λ x. look vs x ≡ Some w) e p) (sym e))))
+          by_zero k w p (inr a) = K.reached k w p a
 
-          by-one : (k : ℕ) (w : Vertex S) → look vs k ≡ Some w → (k ≡ v .one) ⊎ Marked half k → (j : ℕ) × List·Memᴰ j keep × Reached vs j k
-          by-one k w p (inl e) = (from .0, from .1, reached-then (from .2) (over-one v at-n (itself w (subst (λ x. look vs x ≡ Some w) e p) (sym e))))
-          by-one k w p (inr a) = by-zero k w p (mark-cases ms (v .zero) k a)
+          by_one : (k : ℕ) (w : Vertex S) → look vs k ≡ Some w → (k ≡ v.one) ⊎ Marked half k → (j : ℕ) × Memᴰ j keep × Reached vs j k
+          by_one k w p (inl e) = (from.0, from.1, reached_then from.2 (over_one v at_n (itself w (subst (λ x. look vs x ≡ Some w) e p) (sym e))))
+          by_one k w p (inr a) = by_zero k w p (mark_cases ms v.zero k a)
 
-          by : (k : ℕ) (w : Vertex S) → n ≤ k → look vs k ≡ Some w → Marked ms k → (k ≡ n) ⊎ (k ≡ n → ⊥) → Marked both (w .zero) × Marked both (w .one)
+          by : (k : ℕ) (w : Vertex S) → n ≤ k → look vs k ≡ Some w → Marked ms k → (k ≡ n) ⊎ (k ≡ n → ⊥) → Marked both w.zero × Marked both w.one
           by k w h p m (inl e) =
-              subst (λ (x : Vertex S). Marked both (x .zero) × Marked both (x .one)) (some-same at-n (subst (λ x. look vs x ≡ Some w) e p)) (zero-marked, one-marked)
+              subst (λ (x : Vertex S). Marked both x.zero × Marked both x.one) (some_same at_n (subst (λ x. look vs x ≡ Some w) e p)) (zero_marked, one_marked)
           by k w h p m (inr f) =
-              let r = K .links k w (omega arith) p m in
-              (both-stay (w .zero) (r .0), both-stay (w .one) (r .1))
+              let r = K.links k w (omega arith) p m in
+              (both_stay w.zero r.0, both_stay w.one r.1)
 
-    pub spread-more : (after : List Bool) → Visited vs n ms after → Spread vs keep n after
-    spread-more after (inl (m, u)) = subst⁻¹ (Spread vs keep n) (u .2) (came-to (u .0) (u .1) m)
-    spread-more after (inr (none, e)) = subst⁻¹ (Spread vs keep n) e (passed none)
+    pub spread_more : (after : List Bool) → Visited vs n ms after → Spread vs keep n after
+    spread_more after (inl (m, u)) = subst⁻¹ (Spread vs keep n) u.2 (came_to u.0 u.1 m)
+    spread_more after (inr (none, e)) = subst⁻¹ (Spread vs keep n) e (passed none)
 
   -- over every link
   module _ (ms : List Bool) (K : Spread vs keep 2 ms) where
-    whole : (n : ℕ) (v : Vertex S) → look vs n ≡ Some v → Marked ms n → Marked ms (v .zero) × Marked ms (v .one)
-    whole n v p m = K .links n v (vertex-from-2 vs n v p) p m
+    whole : (n : ℕ) (v : Vertex S) → look vs n ≡ Some v → Marked ms n → Marked ms v.zero × Marked ms v.one
+    whole n v p m = K.links n v (vertex_from_2 vs n v p) p m
 
-    all-marked : {j k : ℕ} → Marked ms j → Reached vs j k → Marked ms k
-    all-marked m (itself v p e) = subst (Marked ms) e m
-    all-marked {j} m (over-zero v p r) = all-marked (whole j v p m .0) r
-    all-marked {j} m (over-one v p r) = all-marked (whole j v p m .1) r
+    all_marked : {j k : ℕ} → Marked ms j → Reached vs j k → Marked ms k
+    all_marked m (itself v p e) = subst (Marked ms) e m
+    all_marked {j} m (over_zero v p r) = all_marked (whole j v p m).0 r
+    all_marked {j} m (over_one v p r) = all_marked (whole j v p m).1 r
 
-    pub spread-gatherable : Gatherable ms vs
-    spread-gatherable =
+    pub spread_gatherable : Gatherable ms vs
+    spread_gatherable =
         record {
-          numbered = K .numbered;
-          below = λ n v p m. (formed .zero-below n v p, formed .one-below n v p);
+          numbered = K.numbered;
+          below = λ n v p m. (formed.zero_below n v p, formed.one_below n v p);
           whole = whole;
         }
 
-    pub spread-keeps : Keeps vs keep ms
-    spread-keeps = (
-      K .numbered,
+    pub spread_keeps : Keeps vs keep ms
+    spread_keeps = (
+      K.numbered,
       λ n v p. (
-        K .reached n v p,
-        λ r. let w = reached-by (r .2) in all-marked (K .kept (r .0) (w .0) (w .1) (r .1)) (r .2),
+        K.reached n v p,
+        λ r. let w = reached_by r.2 in all_marked (K.kept r.0 w.0 w.1 r.1) r.2,
       ),
     )

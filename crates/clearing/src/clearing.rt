@@ -1,13 +1,11 @@
 // Clearing out: what is reached from a keep-list is marked in the work space, the shelf keeps the marked vertices in
 // their order, and the keep-list gets their new numbers. Its cost grows with the vertices on the shelf and with the
 // keep-list; neither the capacity nor the rest of the work space counts.
-ghost use Prim.Native.Nat.{_<_, _≤_};
-ghost use lib.ListN.{length, drop, getD, set};
-ghost use mathlib.Core.List.{map};
-ghost use mathlib.Core.Path.{_≡_};
-ghost use Rattle·ledger.specs.Diagrams.{Formed, Sound};
-ghost use Rattle·memory.specs.Marks.{noted};
-ghost use Rattle·clearing·specs.Cleared.{AllGood, Clears};
+ghost use Rattle.std.specs.Prelude.{◌≡◌, ◌<◌, ◌≤◌, map, length, drop, slice_index, slice_set};
+ghost use Rattle.ledger.specs.Diagrams.{Formed, Sound};
+ghost use Rattle.memory.specs.Marks.{noted};
+ghost use Rattle.clearing.specs.Cleared.{AllGood, Clears};
+
 use crate::marking::mark_reached;
 use memory::marks::new_link;
 use memory::shelf::Shelf;
@@ -16,14 +14,14 @@ use symbols::Symbol;
 
 // Gives one list its new number, read from its place.
 fn renumber_at(lists: &mut [u32], i: usize, marks: &[Place])
-    requires { ⌜ i < length (now lists) ⌝ }
-    ensures { λ _. ⌜ now (lists .exit) ≡ set (now (lists .entry)) i (noted (now (marks .entry)) (getD (now (lists .entry)) i 0)) ⌝ }
+    requires { i < length lists.old }
+    ensures { lists.new ≡ slice_set lists.old i (noted marks.now (slice_index lists.old i)) }
 {
     lists[i] = new_link(marks, lists[i]);
 }
 
 fn renumber_each(lists: &mut [u32], marks: &[Place])
-    ensures { λ _. ⌜ now (lists .exit) ≡ map (noted (now (marks .entry))) (now (lists .entry)) ⌝ }
+    ensures { lists.new ≡ map (noted marks.now) lists.old }
 {
     for i in 0..lists.len() {
         renumber_at(lists, i, marks);
@@ -32,9 +30,9 @@ fn renumber_each(lists: &mut [u32], marks: &[Place])
 
 // Keeps what is reached from the keep-list, where there is a place for each vertex.
 fn keep_reached<S: Symbol, B: Shelf<S>>(shelf: &mut B, keep: &mut [u32], marks: &mut [Place])
-    ensures answer { λ _. ⌜ (Formed (S·Symbol .before) (B·Shelf .vertices (now (shelf .entry))) → length (now (marks .entry)) ≡ length (B·Shelf .vertices (now (shelf .entry))) → AllGood (B·Shelf .vertices (now (shelf .entry))) (now (keep .entry)) → Clears (B·Shelf .vertices (now (shelf .entry))) (now (keep .entry)) (B·Shelf .vertices (now (shelf .exit))) (now (keep .exit))) ⌝ }
-    ensures ready { λ _. ⌜ (B·Shelf .ready (now (shelf .entry)) → B·Shelf .ready (now (shelf .exit))) ⌝ }
-    ensures size { λ _. ⌜ B·Shelf .capacity (now (shelf .exit)) ≡ B·Shelf .capacity (now (shelf .entry)) ⌝ }
+    ensures answer { Formed S.Symbol.before (B.Shelf.vertices shelf.old) → length marks.old ≡ length (B.Shelf.vertices shelf.old) → AllGood (B.Shelf.vertices shelf.old) keep.old → Clears (B.Shelf.vertices shelf.old) keep.old (B.Shelf.vertices shelf.new) keep.new }
+    ensures ready { B.Shelf.ready shelf.old → B.Shelf.ready shelf.new }
+    ensures size { B.Shelf.capacity shelf.new ≡ B.Shelf.capacity shelf.old }
 {
     mark_reached(shelf, keep, marks);
     if !shelf.gather(marks) {
@@ -45,11 +43,11 @@ fn keep_reached<S: Symbol, B: Shelf<S>>(shelf: &mut B, keep: &mut [u32], marks: 
 
 // Clears out with the first places of the work space, one a vertex; the others stay.
 fn clear<S: Symbol, B: Shelf<S>>(shelf: &mut B, keep: &mut [u32], work: &mut [Place])
-    requires { ⌜ length (B·Shelf .vertices (now shelf)) ≤ length (now work) ⌝ }
-    ensures answer { λ _. ⌜ (Sound (S·Symbol .before) (B·Shelf .vertices (now (shelf .entry))) → AllGood (B·Shelf .vertices (now (shelf .entry))) (now (keep .entry)) → Clears (B·Shelf .vertices (now (shelf .entry))) (now (keep .entry)) (B·Shelf .vertices (now (shelf .exit))) (now (keep .exit))) ⌝ }
-    ensures ready { λ _. ⌜ (B·Shelf .ready (now (shelf .entry)) → B·Shelf .ready (now (shelf .exit))) ⌝ }
-    ensures size { λ _. ⌜ B·Shelf .capacity (now (shelf .exit)) ≡ B·Shelf .capacity (now (shelf .entry)) ⌝ }
-    ensures kept { λ _. ⌜ drop (length (B·Shelf .vertices (now (shelf .entry)))) (now (work .exit)) ≡ drop (length (B·Shelf .vertices (now (shelf .entry)))) (now (work .entry)) ⌝ }
+    requires { length (B.Shelf.vertices shelf.old) ≤ length work.old }
+    ensures answer { Sound S.Symbol.before (B.Shelf.vertices shelf.old) → AllGood (B.Shelf.vertices shelf.old) keep.old → Clears (B.Shelf.vertices shelf.old) keep.old (B.Shelf.vertices shelf.new) keep.new }
+    ensures ready { B.Shelf.ready shelf.old → B.Shelf.ready shelf.new }
+    ensures size { B.Shelf.capacity shelf.new ≡ B.Shelf.capacity shelf.old }
+    ensures kept { drop (length (B.Shelf.vertices shelf.old)) work.new ≡ drop (length (B.Shelf.vertices shelf.old)) work.old }
 {
     let used = shelf.used() as usize;
     keep_reached(shelf, keep, &mut work[0..used]);
@@ -58,12 +56,12 @@ fn clear<S: Symbol, B: Shelf<S>>(shelf: &mut B, keep: &mut [u32], work: &mut [Pl
 // Exactly the lists of the keep-list and all reached from them stay, in their order; the keep-list gets their new
 // numbers. Answers how many vertices are left.
 pub fn clear_out<S: Symbol, B: Shelf<S>>(shelf: &mut B, keep: &mut [u32], work: &mut [Place]) -> u32
-    requires { ⌜ length (B·Shelf .vertices (now shelf)) ≤ length (now work) ⌝ }
-    ensures answer { λ _. ⌜ (Sound (S·Symbol .before) (B·Shelf .vertices (now (shelf .entry))) → AllGood (B·Shelf .vertices (now (shelf .entry))) (now (keep .entry)) → Clears (B·Shelf .vertices (now (shelf .entry))) (now (keep .entry)) (B·Shelf .vertices (now (shelf .exit))) (now (keep .exit))) ⌝ }
-    ensures value { λ r. ⌜ r ≡ length (B·Shelf .vertices (now (shelf .exit))) ⌝ }
-    ensures ready { λ _. ⌜ (B·Shelf .ready (now (shelf .entry)) → B·Shelf .ready (now (shelf .exit))) ⌝ }
-    ensures size { λ _. ⌜ B·Shelf .capacity (now (shelf .exit)) ≡ B·Shelf .capacity (now (shelf .entry)) ⌝ }
-    ensures kept { λ _. ⌜ drop (length (B·Shelf .vertices (now (shelf .entry)))) (now (work .exit)) ≡ drop (length (B·Shelf .vertices (now (shelf .entry)))) (now (work .entry)) ⌝ }
+    requires { length (B.Shelf.vertices shelf.old) ≤ length work.old }
+    ensures answer { Sound S.Symbol.before (B.Shelf.vertices shelf.old) → AllGood (B.Shelf.vertices shelf.old) keep.old → Clears (B.Shelf.vertices shelf.old) keep.old (B.Shelf.vertices shelf.new) keep.new }
+    ensures value { result ≡ length (B.Shelf.vertices shelf.new) }
+    ensures ready { B.Shelf.ready shelf.old → B.Shelf.ready shelf.new }
+    ensures size { B.Shelf.capacity shelf.new ≡ B.Shelf.capacity shelf.old }
+    ensures kept { drop (length (B.Shelf.vertices shelf.old)) work.new ≡ drop (length (B.Shelf.vertices shelf.old)) work.old }
 {
     clear(shelf, keep, work);
     shelf.used()

@@ -1,13 +1,11 @@
 // Marking what is reached from the lists of a keep-list: place k speaks of the vertex with number k + 2. Links lead to
 // lower numbers, so one pass from the last number down marks all; whatever lies on the shelf, that pass is all there is.
-ghost use Prim.Native.Nat.{ℕ, _+_, _<_, _≤_};
-ghost use lib.ListN.{length, replicate};
-ghost use mathlib.Core.List.{List};
-ghost use mathlib.Core.Path.{_≡_};
-ghost use Rattle·ledger.specs.Diagrams.{Formed};
-ghost use Rattle·ledger.specs.Gather.{Gatherable, Keeps};
-ghost use Rattle·memory.specs.Shelves.{marks-in};
-ghost use Rattle·clearing·specs.Spreading.{Spread, Visited, unmarked-place, with-mark, with-marks};
+ghost use Rattle.std.specs.Prelude.{◌≡◌, ℕ, ◌+◌, ◌<◌, ◌≤◌, List, length, replicate};
+ghost use Rattle.ledger.specs.Diagrams.{Formed};
+ghost use Rattle.ledger.specs.Gather.{Gatherable, Keeps};
+ghost use Rattle.memory.specs.Shelves.{marks_in};
+ghost use Rattle.clearing.specs.Spreading.{Spread, Visited, unmarked_place, with_mark, with_marks};
+
 use memory::marks::is_marked;
 use memory::reading::read_vertex;
 use memory::shelf::Shelf;
@@ -32,14 +30,14 @@ const MARKED: Place = Place {
 };
 
 fn unmark_all(marks: &mut [Place])
-    ensures { λ _. ⌜ now (marks .exit) ≡ replicate (length (now (marks .entry))) unmarked-place ⌝ }
+    ensures { marks.new ≡ replicate (length marks.old) unmarked_place }
 {
     marks.fill(UNMARKED);
 }
 
 // Marks a vertex. A terminal has no place, nor has a number past the places.
 fn mark(n: u32, marks: &mut [Place])
-    ensures { λ _. ⌜ marks-in (now (marks .exit)) ≡ with-mark (marks-in (now (marks .entry))) n ⌝ }
+    ensures { marks_in marks.new ≡ with_mark (marks_in marks.old) n }
 {
     if n < 2 {
         return;
@@ -52,14 +50,14 @@ fn mark(n: u32, marks: &mut [Place])
 }
 
 fn mark_both(zero: u32, one: u32, marks: &mut [Place])
-    ensures { λ _. ⌜ marks-in (now (marks .exit)) ≡ with-mark (with-mark (marks-in (now (marks .entry))) zero) one ⌝ }
+    ensures { marks_in marks.new ≡ with_mark (with_mark (marks_in marks.old) zero) one }
 {
     mark(zero, marks);
     mark(one, marks);
 }
 
 fn mark_each(lists: &[u32], marks: &mut [Place])
-    ensures { λ _. ⌜ marks-in (now (marks .exit)) ≡ with-marks (marks-in (now (marks .entry))) (now (lists .entry)) ⌝ }
+    ensures { marks_in marks.new ≡ with_marks (marks_in marks.old) lists.now }
 {
     for list in lists {
         mark(*list, marks);
@@ -68,7 +66,7 @@ fn mark_each(lists: &[u32], marks: &mut [Place])
 
 // Marks the links of this number, if it is a marked vertex.
 fn visit<S: Symbol, B: Shelf<S>>(shelf: &B, n: u32, marks: &mut [Place])
-    ensures { λ _. ⌜ (Formed (S·Symbol .before) (B·Shelf .vertices (now (shelf .entry))) → Visited (B·Shelf .vertices (now (shelf .entry))) n (marks-in (now (marks .entry))) (marks-in (now (marks .exit)))) ⌝ }
+    ensures { Formed S.Symbol.before (B.Shelf.vertices shelf.now) → Visited (B.Shelf.vertices shelf.now) n (marks_in marks.old) (marks_in marks.new) }
 {
     if !is_marked(marks, n) {
         return;
@@ -81,7 +79,7 @@ fn visit<S: Symbol, B: Shelf<S>>(shelf: &B, n: u32, marks: &mut [Place])
 
 // Marks all that is reached from marked vertices.
 fn spread<S: Symbol, B: Shelf<S>>(shelf: &B, marks: &mut [Place])
-    ensures { λ _. ⌜ (Formed (S·Symbol .before) (B·Shelf .vertices (now (shelf .entry))) → (keep : List ℕ) → Spread (B·Shelf .vertices (now (shelf .entry))) keep (length (B·Shelf .vertices (now (shelf .entry))) + 2) (marks-in (now (marks .entry))) → Spread (B·Shelf .vertices (now (shelf .entry))) keep 2 (marks-in (now (marks .exit)))) ⌝ }
+    ensures { Formed S.Symbol.before (B.Shelf.vertices shelf.now) → (keep : List ℕ) → Spread (B.Shelf.vertices shelf.now) keep (length (B.Shelf.vertices shelf.now) + 2) (marks_in marks.old) → Spread (B.Shelf.vertices shelf.now) keep 2 (marks_in marks.new) }
 {
     let last = shelf.used() + 1;
     for n in (2..=last).rev() {
@@ -91,7 +89,7 @@ fn spread<S: Symbol, B: Shelf<S>>(shelf: &B, marks: &mut [Place])
 
 // Marks just what is reached from the lists of a keep-list.
 pub(crate) fn mark_reached<S: Symbol, B: Shelf<S>>(shelf: &B, keep: &[u32], marks: &mut [Place])
-    ensures { λ _. ⌜ (Formed (S·Symbol .before) (B·Shelf .vertices (now (shelf .entry))) → length (now (marks .entry)) ≡ length (B·Shelf .vertices (now (shelf .entry))) → Gatherable (marks-in (now (marks .exit))) (B·Shelf .vertices (now (shelf .entry))) × Keeps (B·Shelf .vertices (now (shelf .entry))) (now (keep .entry)) (marks-in (now (marks .exit)))) ⌝ }
+    ensures { Formed S.Symbol.before (B.Shelf.vertices shelf.now) → length marks.old ≡ length (B.Shelf.vertices shelf.now) → Gatherable (marks_in marks.new) (B.Shelf.vertices shelf.now) × Keeps (B.Shelf.vertices shelf.now) keep.now (marks_in marks.new) }
 {
     unmark_all(marks);
     mark_each(keep, marks);

@@ -1,6 +1,9 @@
 // What a user of the store has from its contracts, and with no work: a store is fitted out and called, and every condition
 // of a call is met by what the call before it promised.
-ghost use mathlib.Core.Path.{_≡_};
+#![tactic(auto)]
+
+ghost use Rattle.std.specs.Prelude.{◌≡◌};
+
 use memory::recall::RecallTable;
 use memory::shelf::Shelf;
 use memory::work::Place;
@@ -16,7 +19,7 @@ pub fn same_bag_twice<S: Symbol, B: Shelf<S> + Drop, R: RecallTable + Drop>(
     code: &[S],
     work: &mut [Place],
 ) -> (Result<u32, Fault>, Result<u32, Fault>)
-    ensures { λ r. ⌜ r .1 ≡ r .0 ⌝ }
+    ensures { result.1 ≡ result.0 }
 {
     let mut store = Store::fit_out(shelf, recall);
     let first = store.add(0, code, work);

@@ -1,18 +1,13 @@
 -- The command language: what a line can say, and how that is written.
-use mathlib.Core.List.{List, [], _∷_, _++_}
-use mathlib.Core.Path.{_≡_}
-use Prim.Native.Nat.{ℕ, _^_, _<_, _≤_}
-use lib.Chars.{codes}
-use lib.ListN.{length}
-use Rattle·std.specs.Written.{decimal}
-use Rattle·commands·specs.declared.kinds.Kind.{Kind}
-use Rattle·commands·specs.declared.kinds.Kind.the-variants.{Letters, Steps}
-use Rattle·commands·specs.Hexadecimals.{Hexadecimal}
+use Rattle.std.specs.Prelude.{◌≡◌, ℕ, ◌^◌, ◌<◌, ◌≤◌, List, [], ◌∷◌, ◌++◌, length, codes, decimal}
+use Rattle.commands.specs.declared.kinds.Kind.{Kind}
+use Rattle.commands.specs.declared.kinds.Kind.TheVariants.{Letters, Steps}
+use Rattle.commands.specs.Hexadecimals.{Hexadecimal}
 
 -- the line that names a kind
-abbrev pub kind-text : Kind → List ℕ
-kind-text Letters = codes "LETTERS"
-kind-text Steps = codes "STEPS"
+abbrev pub kind_text : Kind → List ℕ
+kind_text Letters = codes "LETTERS"
+kind_text Steps = codes "STEPS"
 
 -- what a line says: a list number and a code's text; a list number; a list number and k; a rule and two list numbers;
 -- hexadecimal text

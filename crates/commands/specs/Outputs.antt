@@ -1,14 +1,9 @@
 -- What a call leaves in a lent output.
-use mathlib.Core.List.{List, _++_}
-use mathlib.Core.Path.{_≡_}
-use Prim.Native.Nat.{ℕ, _<_, _≤_}
-use lib.ListN.{length, drop}
-use Rattle·std.specs.declared.result.Result.{Result}
-use Rattle·std.specs.declared.result.Result.the-variants.{Ok, Err}
-use Rattle·commands·specs.declared.hex.HexFault.{HexFault}
-use Rattle·commands·specs.declared.hex.HexFault.the-variants.{NotHexadecimal, OutputTooShort}
-use Rattle·commands·specs.declared.output.TooShort.{TooShort}
-use Rattle·commands·specs.Hexadecimals.{Writes, Hexadecimal}
+use Rattle.std.specs.Prelude.{◌≡◌, ℕ, ◌<◌, ◌≤◌, List, ◌++◌, length, drop, Ok, Err, Result}
+use Rattle.commands.specs.declared.hex.HexFault.{HexFault}
+use Rattle.commands.specs.declared.hex.HexFault.TheVariants.{NotHexadecimal, OutputTooShort}
+use Rattle.commands.specs.declared.output.TooShort.{TooShort}
+use Rattle.commands.specs.Hexadecimals.{Writes, Hexadecimal}
 
 -- the text stands at the start of the output, whose rest is as it was
 abbrev pub Starts : List ℕ → List ℕ → List ℕ → ℕ → Type 0

@@ -1,8 +1,9 @@
 // The text of an answer: one line, its line feed included. An output that is too short is left as it was.
-ghost use Rattle·std.specs.Written.{decimal};
-ghost use Rattle·commands·specs.Answers.{answer-text, ended, refused-text};
-ghost use Rattle·commands·specs.Hexadecimals.{hexadecimal};
-ghost use Rattle·commands·specs.Outputs.{Puts};
+ghost use Rattle.std.specs.Prelude.{decimal};
+ghost use Rattle.commands.specs.Answers.{answer_text, ended, refused_text};
+ghost use Rattle.commands.specs.Hexadecimals.{hexadecimal};
+ghost use Rattle.commands.specs.Outputs.{Puts};
+
 use crate::decimals::write_decimal;
 use crate::hex::encode_hex;
 use crate::output::TooShort;
@@ -20,7 +21,7 @@ pub enum Answer<'a> {
 
 // Puts a text and a line feed at the start of `out`; so do the next three.
 fn write_line(text: &[u8], out: &mut [u8]) -> Result<usize, TooShort>
-    ensures { λ r. ⌜ Puts (ended (now (text .entry))) (now (out .entry)) (now (out .exit)) r ⌝ }
+    ensures { Puts (ended text.now) out.old out.new result }
 {
     let n = text.len();
     if out.len() <= n {
@@ -32,7 +33,7 @@ fn write_line(text: &[u8], out: &mut [u8]) -> Result<usize, TooShort>
 }
 
 fn write_number(n: u64, out: &mut [u8]) -> Result<usize, TooShort>
-    ensures { λ r. ⌜ Puts (ended (decimal n)) (now (out .entry)) (now (out .exit)) r ⌝ }
+    ensures { Puts (ended (decimal n)) out.old out.new result }
 {
     let mut digits = [0; 20];
     let count = write_decimal(n, &mut digits);
@@ -40,7 +41,7 @@ fn write_number(n: u64, out: &mut [u8]) -> Result<usize, TooShort>
 }
 
 fn write_refused(number: u8, out: &mut [u8]) -> Result<usize, TooShort>
-    ensures { λ r. ⌜ Puts (ended (refused-text number)) (now (out .entry)) (now (out .exit)) r ⌝ }
+    ensures { Puts (ended (refused_text number)) out.old out.new result }
 {
     let mut text = [0; 28];
     text[0..8].copy_from_slice(b"REFUSED ");
@@ -49,7 +50,7 @@ fn write_refused(number: u8, out: &mut [u8]) -> Result<usize, TooShort>
 }
 
 fn write_bytes(bytes: &[u8], out: &mut [u8]) -> Result<usize, TooShort>
-    ensures { λ r. ⌜ Puts (ended (hexadecimal (now (bytes .entry)))) (now (out .entry)) (now (out .exit)) r ⌝ }
+    ensures { Puts (ended (hexadecimal bytes.now)) out.old out.new result }
 {
     if out.is_empty() || (out.len() - 1) / 2 < bytes.len() {
         return Err(TooShort);
@@ -61,7 +62,7 @@ fn write_bytes(bytes: &[u8], out: &mut [u8]) -> Result<usize, TooShort>
 
 // Puts the text of an answer at the start of `out`, and answers how long it is.
 pub fn write_answer(answer: Answer, out: &mut [u8]) -> Result<usize, TooShort>
-    ensures after { λ r. ⌜ Puts (answer-text (answer .entry)) (now (out .entry)) (now (out .exit)) r ⌝ }
+    ensures after { Puts (answer_text answer.entry) out.old out.new result }
 {
     match answer {
         Answer::Number(n) => write_number(n, out),

@@ -1,16 +1,11 @@
 // A line of input as a command, with the code text still a part of the line.
-ghost use mathlib.Core.Logic.{_↔_};
-ghost use mathlib.Core.Path.{_≡_};
-ghost use Rattle·std.specs.Options.{mapped};
-ghost use Rattle·std.specs.declared.option.Option.the-variants.{Some, None};
-ghost use Rattle·commands·specs.Grammar.{Line, Says};
-ghost use Rattle·commands·specs.Meaning.{meaning};
-ghost use Rattle·commands·specs.Reading.{word-of, fields-of, line-of};
-use crate::fields::is_word;
-use crate::fields::read_u32;
-use crate::fields::read_u64;
-use crate::fields::split_field;
-use crate::fields::split_u32;
+ghost use Rattle.std.specs.Prelude.{◌≡◌, ◌↔◌, Some, None};
+ghost use Rattle.std.specs.Option.{option_map};
+ghost use Rattle.commands.specs.Grammar.{Line, Says};
+ghost use Rattle.commands.specs.Meaning.{meaning};
+ghost use Rattle.commands.specs.Reading.{word_of, fields_of, line_of};
+
+use crate::fields::{is_word, read_u32, read_u64, split_field, split_u32};
 use crate::hex::is_hex;
 
 // The bytes that a line may have, its line feed left out.
@@ -46,7 +41,7 @@ enum Word {
 
 // The word that stands there.
 fn read_word(word: &[u8]) -> Option<Word>
-    ensures { λ r. ⌜ r ≡ word-of (now (word .entry)) ⌝ }
+    ensures { result ≡ word_of word.now }
 {
     if is_word(word, b"ADD") {
         Some(Word::Add)
@@ -73,7 +68,7 @@ fn read_word(word: &[u8]) -> Option<Word>
 
 // The fields of a command, by its word.
 fn read_fields<'a>(word: Word, text: &'a [u8]) -> Option<Command<'a>>
-    ensures { λ r. ⌜ mapped meaning r ≡ fields-of (now (text .entry)) word ⌝ }
+    ensures { option_map meaning result ≡ fields_of text.now word }
 {
     match word {
         Word::Add => {
@@ -120,7 +115,7 @@ fn read_fields<'a>(word: Word, text: &'a [u8]) -> Option<Command<'a>>
 
 // The command that a line writes, however long the line is.
 fn read_line<'a>(line: &'a [u8]) -> Option<Command<'a>>
-    ensures { λ r. ⌜ mapped meaning r ≡ line-of (now (line .entry)) ⌝ }
+    ensures { option_map meaning result ≡ line_of line.now }
 {
     let (word, rest) = split_field(line)?;
     read_fields(read_word(word)?, rest)
@@ -128,8 +123,8 @@ fn read_line<'a>(line: &'a [u8]) -> Option<Command<'a>>
 
 // The command that a line writes; none if the line is unreadable.
 pub fn read_command<'a>(line: &'a [u8]) -> Option<Command<'a>>
-    ensures answer { λ r. ⌜ ((l : Line) → (mapped meaning r ≡ Some l) ↔ Says (now (line .entry)) l) ⌝ }
-    ensures refused { λ r. ⌜ (mapped meaning r ≡ None) ↔ ((l : Line) → Says (now (line .entry)) l → ⊥) ⌝ }
+    ensures answer { (l : Line) → (option_map meaning result ≡ Some l) ↔ Says line.now l }
+    ensures refused { (option_map meaning result ≡ None) ↔ ((l : Line) → Says line.now l → ⊥) }
 {
     if line.len() > MAX_LINE {
         return None;

@@ -1,13 +1,9 @@
 // A number of 64 bits in decimal without leading zeros: at most 20 digits.
-ghost use Prim.Native.Nat.{_≤_};
-ghost use lib.ListN.{length, drop};
-ghost use mathlib.Core.List.{_++_};
-ghost use mathlib.Core.Path.{_≡_};
-ghost use Rattle·std.specs.Written.{decimal};
+ghost use Rattle.std.specs.Prelude.{◌≡◌, ◌≤◌, ◌++◌, length, drop, decimal};
 
 // How many digits a number has.
 fn count_digits(n: u64) -> usize
-    ensures { λ r. ⌜ r ≡ length (decimal n) ⌝ }
+    ensures { result ≡ length (decimal n) }
 {
     let mut count = 1;
     let mut rest = n;
@@ -20,10 +16,10 @@ fn count_digits(n: u64) -> usize
 
 // Puts a number at the start of `out`, from its last digit to its first, and answers how many digits it has.
 pub(crate) fn write_decimal(n: u64, out: &mut [u8]) -> usize
-    requires { ⌜ 20 ≤ length (now out) ⌝ }
-    ensures most { λ r. ⌜ r ≤ 20 ⌝ }
-    ensures value { λ r. ⌜ r ≡ length (decimal n) ⌝ }
-    ensures after { λ r. ⌜ now (out .exit) ≡ decimal n ++ drop r (now (out .entry)) ⌝ }
+    requires { 20 ≤ length out.old }
+    ensures most { result ≤ 20 }
+    ensures value { result ≡ length (decimal n) }
+    ensures after { out.new ≡ decimal n ++ drop result out.old }
 {
     let count = count_digits(n);
     let mut at = count - 1;

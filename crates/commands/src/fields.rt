@@ -1,21 +1,20 @@
 // The fields of a line: words, and numbers in decimal. Each function goes over its bytes once.
-ghost use mathlib.Core.Path.{_≡_};
-ghost use Rattle·std.specs.Options.{mapped};
-ghost use Rattle·std.specs.Orderings.{Decides};
-ghost use Rattle·std.specs.shelf.Text.{sameBytes};
-ghost use Rattle·commands·specs.Reading.{field-of, texts, grown, plain, number-of, narrow-of, listed, listed-text};
+ghost use Rattle.std.specs.Prelude.{◌≡◌, Decides};
+ghost use Rattle.std.specs.Option.{option_map};
+ghost use Rattle.std.specs.Str.{bytes_eq};
+ghost use Rattle.commands.specs.Reading.{field_of, texts, grown, plain, number_of, narrow_of, listed, listed_text};
 
 // Whether a word is this one.
 pub fn is_word(word: &[u8], name: &[u8]) -> bool
-    ensures value { λ r. ⌜ r ≡ sameBytes (now (word .entry)) (now (name .entry)) ⌝ }
-    ensures same { λ r. ⌜ Decides r (now (word .entry) ≡ now (name .entry)) ⌝ }
+    ensures value { result ≡ bytes_eq word.now name.now }
+    ensures same { Decides result (word.now ≡ name.now) }
 {
     word == name
 }
 
 // What stands before the first space, and what stands after it.
 pub fn split_field<'a>(text: &'a [u8]) -> Option<(&'a [u8], &'a [u8])>
-    ensures { λ r. ⌜ mapped texts r ≡ field-of (now (text .entry)) ⌝ }
+    ensures { option_map texts result ≡ field_of text.now }
 {
     for (i, b) in text.iter().enumerate() {
         if *b == b' ' {
@@ -27,7 +26,7 @@ pub fn split_field<'a>(text: &'a [u8]) -> Option<(&'a [u8], &'a [u8])>
 
 // One more digit of a number of 64 bits.
 fn push_digit(n: u64, b: u8) -> Option<u64>
-    ensures { λ r. ⌜ r ≡ grown n b ⌝ }
+    ensures { result ≡ grown n b }
 {
     if b < b'0' || b > b'9' {
         return None;
@@ -37,7 +36,7 @@ fn push_digit(n: u64, b: u8) -> Option<u64>
 
 // Whether there is a first digit, and no zero that leads others.
 fn is_plain(digits: &[u8]) -> bool
-    ensures { λ r. ⌜ r ≡ plain (now (digits .entry)) ⌝ }
+    ensures { result ≡ plain digits.now }
 {
     match digits {
         [] => false,
@@ -48,7 +47,7 @@ fn is_plain(digits: &[u8]) -> bool
 
 // A number of 64 bits in decimal, without leading zeros.
 pub fn read_u64(digits: &[u8]) -> Option<u64>
-    ensures { λ r. ⌜ r ≡ number-of (now (digits .entry)) ⌝ }
+    ensures { result ≡ number_of digits.now }
 {
     if !is_plain(digits) {
         return None;
@@ -62,7 +61,7 @@ pub fn read_u64(digits: &[u8]) -> Option<u64>
 
 // A number of 32 bits in decimal, without leading zeros.
 pub fn read_u32(digits: &[u8]) -> Option<u32>
-    ensures { λ r. ⌜ r ≡ narrow-of (now (digits .entry)) ⌝ }
+    ensures { result ≡ narrow_of digits.now }
 {
     let n = read_u64(digits)?;
     u32::try_from(n).ok()
@@ -70,7 +69,7 @@ pub fn read_u32(digits: &[u8]) -> Option<u32>
 
 // A number of 32 bits, and what stands after its space.
 pub fn split_u32<'a>(text: &'a [u8]) -> Option<(u32, &'a [u8])>
-    ensures { λ r. ⌜ mapped listed-text r ≡ listed (now (text .entry)) ⌝ }
+    ensures { option_map listed_text result ≡ listed text.now }
 {
     let (digits, rest) = split_field(text)?;
     let n = read_u32(digits)?;

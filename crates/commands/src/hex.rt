@@ -1,12 +1,10 @@
 // Bytes as lower-case hexadecimal text, two digits a byte, and back. Each call goes over its text at most twice: a text
 // is tested whole before anything is written.
-ghost use Prim.Native.Nat.{ℕ, _/_, _%_, _<_};
-ghost use mathlib.Core.Bool.{true};
-ghost use mathlib.Core.List.{List};
-ghost use mathlib.Core.Path.{_≡_};
-ghost use Rattle·commands·specs.Hexadecimals.{digit, hexadecimal, Writes};
-ghost use Rattle·commands·specs.Outputs.{Puts, Decodes};
-ghost use Rattle·commands·specs.Reading.{is-digit, is-text};
+ghost use Rattle.std.specs.Prelude.{◌≡◌, ℕ, ◌/◌, ◌%◌, ◌<◌, true, List};
+ghost use Rattle.commands.specs.Hexadecimals.{digit, hexadecimal, Writes};
+ghost use Rattle.commands.specs.Outputs.{Puts, Decodes};
+ghost use Rattle.commands.specs.Reading.{is_digit, is_text};
+
 use crate::output::TooShort;
 
 // Why hexadecimal text is refused.
@@ -18,7 +16,7 @@ pub enum HexFault {
 
 // Whether a byte is a lower-case hexadecimal digit.
 fn is_digit(b: u8) -> bool
-    ensures { λ r. ⌜ r ≡ is-digit b ⌝ }
+    ensures { result ≡ is_digit b }
 {
     match b {
         b'0'..=b'9' | b'a'..=b'f' => true,
@@ -28,7 +26,7 @@ fn is_digit(b: u8) -> bool
 
 // Whether a text writes bytes: an even number of digits.
 pub(crate) fn is_hex(text: &[u8]) -> bool
-    ensures { λ r. ⌜ r ≡ is-text (now (text .entry)) ⌝ }
+    ensures { result ≡ is_text text.now }
 {
     for b in text {
         if !is_digit(*b) {
@@ -40,32 +38,32 @@ pub(crate) fn is_hex(text: &[u8]) -> bool
 
 // The number that a digit stands for.
 fn digit_value(b: u8) -> u8
-    requires { ⌜ is-digit b ≡ true ⌝ }
-    ensures { λ r. ⌜ (r < 16) × (digit r ≡ b) ⌝ }
+    requires { is_digit b ≡ true }
+    ensures { (result < 16) × (digit result ≡ b) }
 {
     if b <= b'9' { b - b'0' } else { b - b'a' + 10 }
 }
 
 // The byte that two digits write.
 fn read_pair(high: u8, low: u8) -> u8
-    requires { ⌜ (is-digit high ≡ true) × (is-digit low ≡ true) ⌝ }
-    ensures { λ r. ⌜ (r < 256) × (digit (r / 16) ≡ high) × (digit (r % 16) ≡ low) ⌝ }
+    requires { (is_digit high ≡ true) × (is_digit low ≡ true) }
+    ensures { (result < 256) × (digit (result / 16) ≡ high) × (digit (result % 16) ≡ low) }
 {
     digit_value(high) * 16 + digit_value(low)
 }
 
 // The digit of a number below 16.
 fn write_digit(n: u8) -> u8
-    requires { ⌜ n < 16 ⌝ }
-    ensures { λ r. ⌜ r ≡ digit n ⌝ }
+    requires { n < 16 }
+    ensures { result ≡ digit n }
 {
     if n < 10 { b'0' + n } else { b'a' - 10 + n }
 }
 
 // Puts the bytes that a hexadecimal text writes at the start of `out`, and answers how many they are.
 pub fn decode_hex(hex: &[u8], out: &mut [u8]) -> Result<usize, HexFault>
-    ensures answer { λ r. ⌜ Decodes (now (hex .entry)) (now (out .entry)) (now (out .exit)) r ⌝ }
-    ensures once { λ _. ⌜ ((these those : List ℕ) → Writes (now (hex .entry)) these → Writes (now (hex .entry)) those → these ≡ those) ⌝ }
+    ensures answer { Decodes hex.now out.old out.new result }
+    ensures once { (these those : List ℕ) → Writes hex.now these → Writes hex.now those → these ≡ those }
 {
     if !is_hex(hex) {
         return Err(HexFault::NotHexadecimal);
@@ -82,7 +80,7 @@ pub fn decode_hex(hex: &[u8], out: &mut [u8]) -> Result<usize, HexFault>
 
 // Puts the hexadecimal text of bytes at the start of `out`, and answers how long it is.
 pub fn encode_hex(bytes: &[u8], out: &mut [u8]) -> Result<usize, TooShort>
-    ensures answer { λ r. ⌜ Puts (hexadecimal (now (bytes .entry))) (now (out .entry)) (now (out .exit)) r ⌝ }
+    ensures answer { Puts (hexadecimal bytes.now) out.old out.new result }
 {
     if out.len() / 2 < bytes.len() {
         return Err(TooShort);

@@ -1,9 +1,8 @@
 // The first line of input: which kind of symbol the codes are made of.
-ghost use mathlib.Core.Logic.{_↔_};
-ghost use mathlib.Core.Path.{_≡_};
-ghost use Rattle·std.specs.declared.option.Option.the-variants.{Some};
-ghost use Rattle·commands·specs.declared.kinds.Kind.{Kind};
-ghost use Rattle·commands·specs.Grammar.{kind-text};
+ghost use Rattle.std.specs.Prelude.{◌≡◌, ◌↔◌, Some};
+ghost use Rattle.commands.specs.declared.kinds.Kind.{Kind};
+ghost use Rattle.commands.specs.Grammar.{kind_text};
+
 use crate::fields::is_word;
 
 // A kind of symbol.
@@ -15,7 +14,7 @@ pub enum Kind {
 
 // The kind that a line names: exactly LETTERS or STEPS.
 pub fn read_kind(line: &[u8]) -> Option<Kind>
-    ensures answer { λ r. ⌜ ((k : Kind) → (r ≡ Some k) ↔ (kind-text k ≡ now (line .entry))) ⌝ }
+    ensures answer { (k : Kind) → (result ≡ Some k) ↔ (kind_text k ≡ line.now) }
 {
     if is_word(line, b"LETTERS") {
         Some(Kind::Letters)

@@ -1,87 +1,83 @@
 -- The codes of a list one by one, from those of its outer and its inner list.
-use mathlib.Core.Path.{_≡_, refl, sym, ap, _∙_}
-use mathlib.Core.Bool.{Bool, true, false}
-use mathlib.Core.List.{List, [], _∷_, _++_, map, List·Memᴰ, List·Memᴰ·head, List·Memᴰ·tail}
-use Prim.Native.Nat.{ℕ, zero, suc, _+_, _<_}
-use native.Mathlib.Omega.{arith}
-use lib.ListN.{length, length-map}
-use Rattle·std.specs.Finite.{nth}
-use Rattle·std.specs.Options.{mapped}
-use Rattle·std.specs.declared.option.Option.the-variants.{Some}
-use Rattle·ledger.specs.Lists.{Codes, begun}
-use Rattle·ledger.specs.Ordered.{ordered, later-codes, with-empty, blank-in}
-use mir.Val.{boolByte}
-use Rattle·counting·proofs.Sizes.{length-begun}
+use Rattle.std.proofs.Common.{◌≡◌, ℕ, zero, suc, ◌+◌, ◌<◌, Bool, true, false, List, [], ◌∷◌, ◌++◌, map, length, Some, sym, refl, ap, ◌∙◌, arith}
+use mathlib.Core.List.{Memᴰ}
+use lib.ListN.{length-map}
+use Rattle.std.specs.List.{slice_get}
+use Rattle.std.specs.Option.{option_map}
+use Rattle.ledger.specs.Lists.{Codes, begun}
+use Rattle.ledger.specs.Ordered.{ordered, later_codes, with_empty, blank_in}
+use mir.Val.{bool_byte}
+use Rattle.counting.proofs.Sizes.{length_begun}
 
-nth-left : {A : Type 0} (xs ys : List A) (k : ℕ) → k < length xs → nth (xs ++ ys) k ≡ nth xs k
-nth-left [] ys k h = absurd (omega arith)
-nth-left (x ∷ xs) ys zero h = refl
-nth-left (x ∷ xs) ys (suc k) h = nth-left xs ys k (omega arith)
+nth_left : {A : Type 0} (xs ys : List A) (k : ℕ) → k < length xs → slice_get (xs ++ ys) k ≡ slice_get xs k
+nth_left [] ys k h = absurd (omega arith)
+nth_left (x ∷ xs) ys zero h = refl
+nth_left (x ∷ xs) ys (suc k) h = nth_left xs ys k (omega arith)
 
-nth-right : {A : Type 0} (xs ys : List A) (k : ℕ) → nth (xs ++ ys) (length xs + k) ≡ nth ys k
-nth-right [] ys k = let e : 0 + k ≡ k = omega arith in ap (nth ys) e
-nth-right (x ∷ xs) ys k =
+nth_right : {A : Type 0} (xs ys : List A) (k : ℕ) → slice_get (xs ++ ys) (length xs + k) ≡ slice_get ys k
+nth_right [] ys k = let e : 0 + k ≡ k = omega arith in ap (slice_get ys) e
+nth_right (x ∷ xs) ys k =
     let e : suc (length xs) + k ≡ suc (length xs + k) = omega arith in
-    ap (nth (x ∷ (xs ++ ys))) e ∙ nth-right xs ys k
+    ap (slice_get (x ∷ (xs ++ ys))) e ∙ nth_right xs ys k
 
-nth-map : {A B : Type 0} (f : A → B) (xs : List A) (k : ℕ) → nth (map f xs) k ≡ mapped f (nth xs k)
-nth-map f [] k = refl
-nth-map f (x ∷ xs) zero = refl
-nth-map f (x ∷ xs) (suc k) = nth-map f xs k
+nth_map : {A B : Type 0} (f : A → B) (xs : List A) (k : ℕ) → slice_get (map f xs) k ≡ option_map f (slice_get xs k)
+nth_map f [] k = refl
+nth_map f (x ∷ xs) zero = refl
+nth_map f (x ∷ xs) (suc k) = nth_map f xs k
 
-pub nth-in : {A : Type 0} (xs : List A) (k : ℕ) (x : A) → nth xs k ≡ Some x → List·Memᴰ x xs
-nth-in [] k x e = absurd (let z : _≡_ {A = ℕ} 0 1 = cc in omega arith)
-nth-in (y ∷ xs) zero x e = List·Memᴰ·head (cc)
-nth-in (y ∷ xs) (suc k) x e = List·Memᴰ·tail (nth-in xs k x e)
+pub nth_in : {A : Type 0} (xs : List A) (k : ℕ) (x : A) → slice_get xs k ≡ Some x → Memᴰ x xs
+nth_in [] k x e = absurd (let z : ◌≡◌ {A = ℕ} 0 1 = cc in omega arith)
+nth_in (y ∷ xs) zero x e = Memᴰ.head (cc)
+nth_in (y ∷ xs) (suc k) x e = Memᴰ.tail (nth_in xs k x e)
 
-pub nth-some : {A : Type 0} (xs : List A) (k : ℕ) → k < length xs → (x : A) × (nth xs k ≡ Some x)
-nth-some [] k h = absurd (omega arith)
-nth-some (x ∷ xs) zero h = (x, refl)
-nth-some (x ∷ xs) (suc k) h = nth-some xs k (omega arith)
+pub nth_some : {A : Type 0} (xs : List A) (k : ℕ) → k < length xs → (x : A) × (slice_get xs k ≡ Some x)
+nth_some [] k h = absurd (omega arith)
+nth_some (x ∷ xs) zero h = (x, refl)
+nth_some (x ∷ xs) (suc k) h = nth_some xs k (omega arith)
 
-nth-with : {S : Type 0} (b : Bool) (l : List (List S)) (k : ℕ) → nth (with-empty b l) (boolByte b + k) ≡ nth l k
-nth-with true l k = let e : 1 + k ≡ suc k = omega arith in ap (nth ([] ∷ l)) e
-nth-with false l k = let e : 0 + k ≡ k = omega arith in ap (nth l) e
+nth_with : {S : Type 0} (b : Bool) (l : List (List S)) (k : ℕ) → slice_get (with_empty b l) (bool_byte b + k) ≡ slice_get l k
+nth_with true l k = let e : 1 + k ≡ suc k = omega arith in ap (slice_get ([] ∷ l)) e
+nth_with false l k = let e : 0 + k ≡ k = omega arith in ap (slice_get l) e
 
 -- the empty code comes first
-pub nth-blank : {S : Type 0} (t : Codes S) (k : ℕ) → k < boolByte (blank-in t) → nth (ordered t) k ≡ Some []
-nth-blank t k h = by (blank-in t) h
+pub nth_blank : {S : Type 0} (t : Codes S) (k : ℕ) → k < bool_byte (blank_in t) → slice_get (ordered t) k ≡ Some []
+nth_blank t k h = by (blank_in t) h
   where
-    by : (b : Bool) → k < boolByte b → nth (with-empty b (later-codes t)) k ≡ Some []
-    by true l = let e : k ≡ 0 = omega arith in ap (nth ([] ∷ later-codes t)) e
+    by : (b : Bool) → k < bool_byte b → slice_get (with_empty b (later_codes t)) k ≡ Some []
+    by true l = let e : k ≡ 0 = omega arith in ap (slice_get ([] ∷ later_codes t)) e
     by false l = absurd (omega arith)
 
 -- then come those that begin with the head
-pub nth-inner : {S : Type 0} (a : S) (z o : Codes S) (k : ℕ) → k < length (ordered o) →
-    nth (ordered (begun a z o)) (boolByte (blank-in z) + k) ≡ mapped (λ c. a ∷ c) (nth (ordered o) k)
-nth-inner a z o k h =
+pub nth_inner : {S : Type 0} (a : S) (z o : Codes S) (k : ℕ) → k < length (ordered o) →
+    slice_get (ordered (begun a z o)) (bool_byte (blank_in z) + k) ≡ option_map (λ c. a ∷ c) (slice_get (ordered o) k)
+nth_inner a z o k h =
     let l = length-map (ordered o) (λ c. a ∷ c) in
-    nth-with (blank-in z) (map (λ c. a ∷ c) (ordered o) ++ later-codes z) k ∙
-    nth-left (map (λ c. a ∷ c) (ordered o)) (later-codes z) k (omega arith) ∙
-    nth-map (λ c. a ∷ c) (ordered o) k
+    nth_with (blank_in z) (map (λ c. a ∷ c) (ordered o) ++ later_codes z) k ∙
+    nth_left (map (λ c. a ∷ c) (ordered o)) (later_codes z) k (omega arith) ∙
+    nth_map (λ c. a ∷ c) (ordered o) k
 
 -- then the others
-pub nth-outer : {S : Type 0} (a : S) (z o : Codes S) (k : ℕ) →
-    nth (ordered (begun a z o)) (boolByte (blank-in z) + (length (ordered o) + k)) ≡ nth (ordered z) (boolByte (blank-in z) + k)
-nth-outer a z o k =
-    nth-with (blank-in z) (map (λ c. a ∷ c) (ordered o) ++ later-codes z) (length (ordered o) + k) ∙
-    ap (λ n. nth (map (λ c. a ∷ c) (ordered o) ++ later-codes z) (n + k)) (sym (length-map (ordered o) (λ c. a ∷ c))) ∙
-    nth-right (map (λ c. a ∷ c) (ordered o)) (later-codes z) k ∙
-    sym (nth-with (blank-in z) (later-codes z) k)
+pub nth_outer : {S : Type 0} (a : S) (z o : Codes S) (k : ℕ) →
+    slice_get (ordered (begun a z o)) (bool_byte (blank_in z) + (length (ordered o) + k)) ≡ slice_get (ordered z) (bool_byte (blank_in z) + k)
+nth_outer a z o k =
+    nth_with (blank_in z) (map (λ c. a ∷ c) (ordered o) ++ later_codes z) (length (ordered o) + k) ∙
+    ap (λ n. slice_get (map (λ c. a ∷ c) (ordered o) ++ later_codes z) (n + k)) (sym (length-map (ordered o) (λ c. a ∷ c))) ∙
+    nth_right (map (λ c. a ∷ c) (ordered o)) (later_codes z) k ∙
+    sym (nth_with (blank_in z) (later_codes z) k)
 
-module _ {S : Type 0} (t : Codes S) (a : S) (z o : Codes S) (is : t ≡ begun a z o) (k later : ℕ) (at-k : k ≡ boolByte (blank-in t) + later) where
+module _ {S : Type 0} (t : Codes S) (a : S) (z o : Codes S) (is : t ≡ begun a z o) (k later : ℕ) (at_k : k ≡ bool_byte (blank_in t) + later) where
   -- the same with a list that is known to be begun
-  past-empty : k ≡ boolByte (blank-in z) + later
-  past-empty = at-k ∙ ap (λ u. boolByte (blank-in u) + later) is
+  past_empty : k ≡ bool_byte (blank_in z) + later
+  past_empty = at_k ∙ ap (λ u. bool_byte (blank_in u) + later) is
 
-  pub turn-inner : later < length (ordered o) → nth (ordered t) k ≡ mapped (λ c. a ∷ c) (nth (ordered o) later)
-  turn-inner h = ap (λ u. nth (ordered u) k) is ∙ ap (nth (ordered (begun a z o))) past-empty ∙ nth-inner a z o later h
+  pub turn_inner : later < length (ordered o) → slice_get (ordered t) k ≡ option_map (λ c. a ∷ c) (slice_get (ordered o) later)
+  turn_inner h = ap (λ u. slice_get (ordered u) k) is ∙ ap (slice_get (ordered (begun a z o))) past_empty ∙ nth_inner a z o later h
 
   module _ (left : ℕ) (from : later ≡ length (ordered o) + left) where
-    pub turn-outer : nth (ordered t) k ≡ nth (ordered z) (boolByte (blank-in t) + left)
-    turn-outer =
-        ap (λ u. nth (ordered u) k) is ∙ ap (nth (ordered (begun a z o))) (past-empty ∙ ap (λ n. boolByte (blank-in z) + n) from) ∙
-        nth-outer a z o left ∙ ap (λ u. nth (ordered z) (boolByte (blank-in u) + left)) (sym is)
+    pub turn_outer : slice_get (ordered t) k ≡ slice_get (ordered z) (bool_byte (blank_in t) + left)
+    turn_outer =
+        ap (λ u. slice_get (ordered u) k) is ∙ ap (slice_get (ordered (begun a z o))) (past_empty ∙ ap (λ n. bool_byte (blank_in z) + n) from) ∙
+        nth_outer a z o left ∙ ap (λ u. slice_get (ordered z) (bool_byte (blank_in u) + left)) (sym is)
 
-    pub outer-stands : k < length (ordered t) → boolByte (blank-in t) + left < length (ordered z)
-    outer-stands h = let size = ap (λ u. length (ordered u)) is ∙ length-begun a z o in omega arith
+    pub outer_stands : k < length (ordered t) → bool_byte (blank_in t) + left < length (ordered z)
+    outer_stands h = let size = ap (λ u. length (ordered u)) is ∙ length_begun a z o in omega arith

@@ -1,16 +1,10 @@
 -- The code of a list with k codes before it, and what pick answers.
-use mathlib.Core.Path.{_≡_}
-use mathlib.Core.List.{List, _++_}
-use Prim.Native.Nat.{ℕ, _<_, _≤_, _^_}
-use lib.ListN.{length, drop}
-use Rattle·std.specs.Finite.{nth}
-use Rattle·std.specs.declared.option.Option.the-variants.{Some}
-use Rattle·std.specs.declared.result.Result.{Result}
-use Rattle·std.specs.declared.result.Result.the-variants.{Ok, Err}
-use Rattle·ledger.specs.Lists.{Codes, Member}
-use Rattle·ledger.specs.Ordered.{ordered}
-use Rattle·counting·specs.declared.picking.PickFault.{PickFault}
-use Rattle·counting·specs.declared.picking.PickFault.the-variants.{TooMany, NoSuchCode}
+use Rattle.std.specs.Prelude.{◌≡◌, ℕ, ◌^◌, ◌<◌, ◌≤◌, List, ◌++◌, length, drop, Some, Ok, Err, Result}
+use Rattle.std.specs.List.{slice_get}
+use Rattle.ledger.specs.Lists.{Codes, Member}
+use Rattle.ledger.specs.Ordered.{ordered}
+use Rattle.counting.specs.declared.picking.PickFault.{PickFault}
+use Rattle.counting.specs.declared.picking.PickFault.TheVariants.{TooMany, NoSuchCode}
 
 -- no code of the list has more than 64 symbols
 abbrev pub Short : {S : Type 0} → Codes S → Type 0
@@ -19,7 +13,7 @@ Short {S} t = (c : List S) → Member t c → length c ≤ 64
 -- the code with k before it stands at the start of the output, n is its length, and what is past it is as it was
 pub record Writes {S : Type 0} (cs : List (List S)) (k : ℕ) (entry : List S) (n : ℕ) (exit : List S) : Type 0 where
   pub code : List S
-  pub at-k : nth cs k ≡ Some code
+  pub at_k : slice_get cs k ≡ Some code
   pub long : n ≡ length code
   pub written : exit ≡ code ++ drop n entry
 

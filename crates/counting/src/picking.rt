@@ -1,17 +1,15 @@
 // Which code of a list has a given number of codes before it. The lists up to this one are tallied first. Then one walk
 // goes down the links: each turn ends the code, takes the label or passes it by, as the tallies tell. Each turn leads to
 // a lower number, and no more than 64 labels are taken, so the walk is short and stays in the output on any memory.
-ghost use Prim.Native.Nat.{ℕ, _+_, _<_, _≤_};
-ghost use lib.ListN.{length, drop, set};
-ghost use mathlib.Core.Path.{_≡_};
-ghost use Rattle·ledger.specs.Diagrams.{Good, Sound};
-ghost use Rattle·ledger.specs.Ledger.{codes};
-ghost use Rattle·ledger.specs.Ordered.{ordered};
-ghost use Rattle·counting·specs.Tallies.{Counted, Tallied};
-ghost use Rattle·counting·specs.Picks.{Picked, PickKeeps, Short, Writes};
-ghost use Rattle·counting·specs.Courses.{Advances, AtMost, Falls, Keeps, Leads, LeftOf, Lower, Stands};
-use crate::tallying::tally_at;
-use crate::tallying::tally_up_to;
+ghost use Rattle.std.specs.Prelude.{◌≡◌, ℕ, ◌+◌, ◌<◌, ◌≤◌, length, drop, slice_set};
+ghost use Rattle.ledger.specs.Diagrams.{Good, Sound};
+ghost use Rattle.ledger.specs.Ledger.{codes};
+ghost use Rattle.ledger.specs.Ordered.{ordered};
+ghost use Rattle.counting.specs.Tallies.{Counted, Tallied};
+ghost use Rattle.counting.specs.Picks.{Picked, PickKeeps, Short, Writes};
+ghost use Rattle.counting.specs.Courses.{Advances, AtMost, Falls, Keeps, Leads, LeftOf, Lower, Stands};
+
+use crate::tallying::{tally_at, tally_up_to};
 use memory::reading::read_vertex;
 use memory::shelf::Shelf;
 use memory::work::Place;
@@ -51,17 +49,17 @@ enum Turn<S> {
 
 // How many codes are left of those before, without these; nothing where these are more.
 fn left_of(before: u64, these: Option<u64>) -> Option<u64>
-    ensures small { λ r. ⌜ AtMost before r ⌝ }
-    ensures value { λ r. ⌜ ((n : ℕ) → Counted n these → LeftOf before n r) ⌝ }
+    ensures small { AtMost before result }
+    ensures value { (n : ℕ) → Counted n these → LeftOf before n result }
 {
     before.checked_sub(these?)
 }
 
 // What this code is.
 fn turn_at<S: Symbol, B: Shelf<S>>(shelf: &B, spot: Spot, work: &[Place]) -> Turn<S>
-    requires { ⌜ spot .list < length (now work) ⌝ }
-    ensures below { λ r. ⌜ Lower spot r ⌝ }
-    ensures value { λ r. ⌜ (Sound (S·Symbol .before) (B·Shelf .vertices (now (shelf .entry))) → Tallied (B·Shelf .vertices (now (shelf .entry))) (spot .list + 1) (now (work .entry)) → Stands (B·Shelf .vertices (now (shelf .entry))) spot → Leads (B·Shelf .vertices (now (shelf .entry))) spot r) ⌝ }
+    requires { spot.list < length work.now }
+    ensures below { Lower spot result }
+    ensures value { Sound S.Symbol.before (B.Shelf.vertices shelf.now) → Tallied (B.Shelf.vertices shelf.now) (spot.list + 1) work.now → Stands (B.Shelf.vertices shelf.now) spot → Leads (B.Shelf.vertices shelf.now) spot result }
 {
     let Some((label, zero, one)) = read_vertex(shelf, spot.list) else {
         return Turn::Ends;
@@ -87,8 +85,8 @@ fn turn_at<S: Symbol, B: Shelf<S>>(shelf: &B, spot: Spot, work: &[Place]) -> Tur
 
 // Writes one symbol.
 fn put<S: Symbol>(out: &mut [S], at: usize, symbol: S)
-    requires { ⌜ at < length (now out) ⌝ }
-    ensures { λ _. ⌜ now (out .exit) ≡ set (now (out .entry)) at symbol ⌝ }
+    requires { at < length out.old }
+    ensures { out.new ≡ slice_set out.old at symbol }
 {
     out[at] = symbol;
 }
@@ -100,12 +98,12 @@ fn advance<S: Symbol, B: Shelf<S>>(
     out: &mut [S],
     work: &[Place],
 ) -> Option<Course>
-    requires room { ⌜ course .rest .list < length (now work) ⌝ }
-    requires within { ⌜ course .length ≤ 64 ⌝ }
-    requires output { ⌜ 64 ≤ length (now out) ⌝ }
-    ensures below { λ r. ⌜ Falls course r ⌝ }
-    ensures kept { λ r. ⌜ Keeps (now (out .entry)) r (now (out .exit)) ⌝ }
-    ensures value { λ r. ⌜ (Sound (S·Symbol .before) (B·Shelf .vertices (now (shelf .entry))) → Tallied (B·Shelf .vertices (now (shelf .entry))) (course .rest .list + 1) (now (work .entry)) → Stands (B·Shelf .vertices (now (shelf .entry))) (course .rest) → Advances (B·Shelf .vertices (now (shelf .entry))) course (now (out .entry)) r (now (out .exit))) ⌝ }
+    requires room { course.rest.list < length work.now }
+    requires within { course.length ≤ 64 }
+    requires output { 64 ≤ length out.old }
+    ensures below { Falls course result }
+    ensures kept { Keeps out.old result out.new }
+    ensures value { Sound S.Symbol.before (B.Shelf.vertices shelf.now) → Tallied (B.Shelf.vertices shelf.now) (course.rest.list + 1) work.now → Stands (B.Shelf.vertices shelf.now) course.rest → Advances (B.Shelf.vertices shelf.now) course out.old result out.new }
 {
     match turn_at(shelf, course.rest, work) {
         Turn::Ends => None,
@@ -128,10 +126,10 @@ fn advance<S: Symbol, B: Shelf<S>>(
 
 // Writes a code to the start of `out`, and answers its length.
 fn write_code<S: Symbol, B: Shelf<S>>(shelf: &B, spot: Spot, out: &mut [S], work: &[Place]) -> usize
-    requires room { ⌜ spot .list < length (now work) ⌝ }
-    requires output { ⌜ 64 ≤ length (now out) ⌝ }
-    ensures kept { λ r. ⌜ (r ≤ 64) × (drop r (now (out .exit)) ≡ drop r (now (out .entry))) ⌝ }
-    ensures value { λ r. ⌜ (Sound (S·Symbol .before) (B·Shelf .vertices (now (shelf .entry))) → Tallied (B·Shelf .vertices (now (shelf .entry))) (spot .list + 1) (now (work .entry)) → Stands (B·Shelf .vertices (now (shelf .entry))) spot → Short (codes (B·Shelf .vertices (now (shelf .entry))) (spot .list)) → Writes (ordered (codes (B·Shelf .vertices (now (shelf .entry))) (spot .list))) (spot .before) (now (out .entry)) r (now (out .exit))) ⌝ }
+    requires room { spot.list < length work.now }
+    requires output { 64 ≤ length out.old }
+    ensures kept { (result ≤ 64) × (drop result out.new ≡ drop result out.old) }
+    ensures value { Sound S.Symbol.before (B.Shelf.vertices shelf.now) → Tallied (B.Shelf.vertices shelf.now) (spot.list + 1) work.now → Stands (B.Shelf.vertices shelf.now) spot → Short (codes (B.Shelf.vertices shelf.now) spot.list) → Writes (ordered (codes (B.Shelf.vertices shelf.now) spot.list)) spot.before out.old result out.new }
 {
     let mut course = Course {
         rest: spot,
@@ -151,10 +149,10 @@ pub fn pick<S: Symbol, B: Shelf<S>>(
     out: &mut [S],
     work: &mut [Place],
 ) -> Result<usize, PickFault>
-    requires room { ⌜ list < length (now work) ⌝ }
-    requires output { ⌜ 64 ≤ length (now out) ⌝ }
-    ensures answer { λ r. ⌜ (Sound (S·Symbol .before) (B·Shelf .vertices (now (shelf .entry))) → Good (B·Shelf .vertices (now (shelf .entry))) list → Picked (codes (B·Shelf .vertices (now (shelf .entry))) list) k (now (out .entry)) r (now (out .exit))) ⌝ }
-    ensures kept { λ r. ⌜ PickKeeps (now (out .entry)) r (now (out .exit)) ⌝ }
+    requires room { list < length work.old }
+    requires output { 64 ≤ length out.old }
+    ensures answer { Sound S.Symbol.before (B.Shelf.vertices shelf.now) → Good (B.Shelf.vertices shelf.now) list → Picked (codes (B.Shelf.vertices shelf.now) list) k out.old result out.new }
+    ensures kept { PickKeeps out.old result out.new }
 {
     tally_up_to(shelf, list, work);
     let Some(count) = tally_at(work, list).codes else {

@@ -1,12 +1,11 @@
 // How many codes a list has, and whether the empty code is one of them: one pass over the numbers up to the list's,
 // each counted from its two links, which are lower.
-ghost use Prim.Native.Nat.{ℕ, _+_, _<_};
-ghost use lib.ListN.{length, getD};
-ghost use mathlib.Core.Path.{_≡_};
-ghost use Rattle·ledger.specs.Diagrams.{Good, Sound};
-ghost use Rattle·ledger.specs.Ledger.{codes};
-ghost use Rattle·ledger.specs.Ordered.{ordered};
-ghost use Rattle·counting·specs.Tallies.{Counted, Tells, Tallied, held, vacant};
+ghost use Rattle.std.specs.Prelude.{◌≡◌, ℕ, ◌+◌, ◌<◌, length, slice_index_or};
+ghost use Rattle.ledger.specs.Diagrams.{Good, Sound};
+ghost use Rattle.ledger.specs.Ledger.{codes};
+ghost use Rattle.ledger.specs.Ordered.{ordered};
+ghost use Rattle.counting.specs.Tallies.{Counted, Tells, Tallied, held, vacant};
+
 use memory::reading::read_vertex;
 use memory::shelf::Shelf;
 use memory::work::Place;
@@ -26,7 +25,7 @@ const TOO_MANY: u32 = 1;
 
 // The place that keeps a tally.
 fn place_of(tally: Tally) -> Place
-    ensures { λ r. ⌜ held r ≡ tally ⌝ }
+    ensures { held result ≡ tally }
 {
     let (state, count) = match tally.codes {
         Some(count) => (COUNTED, count),
@@ -43,7 +42,7 @@ fn place_of(tally: Tally) -> Place
 
 // The tally that a place keeps.
 fn tally_in(place: Place) -> Tally
-    ensures { λ r. ⌜ r ≡ held place ⌝ }
+    ensures { result ≡ held place }
 {
     let codes = if place.state == COUNTED {
         Some(place.count)
@@ -58,23 +57,23 @@ fn tally_in(place: Place) -> Tally
 
 // The tally of a list that was counted.
 pub(crate) fn tally_at(work: &[Place], n: u32) -> Tally
-    requires { ⌜ n < length (now work) ⌝ }
-    ensures { λ r. ⌜ r ≡ held (getD (now (work .entry)) n vacant) ⌝ }
+    requires { n < length work.now }
+    ensures { result ≡ held (slice_index_or work.now n vacant) }
 {
     tally_in(work[n as usize])
 }
 
 // A sum of two counts.
 fn total(first: Option<u64>, second: Option<u64>) -> Option<u64>
-    ensures { λ r. ⌜ ((m n : ℕ) → Counted m first → Counted n second → Counted (m + n) r) ⌝ }
+    ensures { (m n : ℕ) → Counted m first → Counted n second → Counted (m + n) result }
 {
     first?.checked_add(second?)
 }
 
 // The tally of a list, from those of all lower numbers.
 fn tally_of<S: Symbol, B: Shelf<S>>(shelf: &B, n: u32, work: &[Place]) -> Tally
-    requires { ⌜ n < length (now work) ⌝ }
-    ensures { λ r. ⌜ (Sound (S·Symbol .before) (B·Shelf .vertices (now (shelf .entry))) → Good (B·Shelf .vertices (now (shelf .entry))) n → Tallied (B·Shelf .vertices (now (shelf .entry))) n (now (work .entry)) → Tells (codes (B·Shelf .vertices (now (shelf .entry))) n) r) ⌝ }
+    requires { n < length work.now }
+    ensures { Sound S.Symbol.before (B.Shelf.vertices shelf.now) → Good (B.Shelf.vertices shelf.now) n → Tallied (B.Shelf.vertices shelf.now) n work.now → Tells (codes (B.Shelf.vertices shelf.now) n) result }
 {
     let Some((_, zero, one)) = read_vertex(shelf, n) else {
         return Tally {
@@ -92,8 +91,8 @@ fn tally_of<S: Symbol, B: Shelf<S>>(shelf: &B, n: u32, work: &[Place]) -> Tally
 
 // Keeps the tally of each list up to this one.
 pub(crate) fn tally_up_to<S: Symbol, B: Shelf<S>>(shelf: &B, list: u32, work: &mut [Place])
-    requires { ⌜ list < length (now work) ⌝ }
-    ensures { λ _. ⌜ (Sound (S·Symbol .before) (B·Shelf .vertices (now (shelf .entry))) → Good (B·Shelf .vertices (now (shelf .entry))) list → Tallied (B·Shelf .vertices (now (shelf .entry))) (list + 1) (now (work .exit))) ⌝ }
+    requires { list < length work.old }
+    ensures { Sound S.Symbol.before (B.Shelf.vertices shelf.now) → Good (B.Shelf.vertices shelf.now) list → Tallied (B.Shelf.vertices shelf.now) (list + 1) work.new }
 {
     for n in 0..=list {
         work[n as usize] = place_of(tally_of(shelf, n, work));
@@ -102,8 +101,8 @@ pub(crate) fn tally_up_to<S: Symbol, B: Shelf<S>>(shelf: &B, list: u32, work: &m
 
 // How many codes the list has; nothing from 2^64 on.
 pub fn count<S: Symbol, B: Shelf<S>>(shelf: &B, list: u32, work: &mut [Place]) -> Option<u64>
-    requires { ⌜ list < length (now work) ⌝ }
-    ensures { λ r. ⌜ (Sound (S·Symbol .before) (B·Shelf .vertices (now (shelf .entry))) → Good (B·Shelf .vertices (now (shelf .entry))) list → Counted (length (ordered (codes (B·Shelf .vertices (now (shelf .entry))) list))) r) ⌝ }
+    requires { list < length work.old }
+    ensures { Sound S.Symbol.before (B.Shelf.vertices shelf.now) → Good (B.Shelf.vertices shelf.now) list → Counted (length (ordered (codes (B.Shelf.vertices shelf.now) list))) result }
 {
     tally_up_to(shelf, list, work);
     tally_at(work, list).codes

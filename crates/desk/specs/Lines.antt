@@ -1,18 +1,13 @@
 -- Lines cut out of chunks.
-use mathlib.Core.Path.{_≡_}
-use mathlib.Core.List.{List, _++_}
-use Prim.Native.Nat.{ℕ, _+_, _<_}
-use lib.ListN.{length, take, drop, getD}
-use Rattle·std.specs.declared.option.Option.{Option}
-use Rattle·std.specs.declared.option.Option.the-variants.{Some, None}
+use Rattle.std.specs.Prelude.{◌≡◌, ℕ, ◌<◌, List, ◌++◌, length, take, drop, Some, None, Option, ◌≢◌, slice_index}
 
 -- no line feed stands before place n
 abbrev pub Plain : List ℕ → ℕ → Type 0
-Plain bytes n = (k : ℕ) → k < n → getD bytes k 0 ≡ 10 → ⊥
+Plain bytes n = (k : ℕ) → k < n → slice_index bytes k ≢ 10
 
 -- the first line feed, or none
 abbrev pub Ends : List ℕ → Option ℕ → Type 0
-Ends bytes (Some n) = (n < length bytes) × (getD bytes n 0 ≡ 10) × Plain bytes n
+Ends bytes (Some n) = (n < length bytes) × (slice_index bytes n ≡ 10) × Plain bytes n
 Ends bytes None = Plain bytes (length bytes)
 
 -- a line with more bytes after the held ones, cut where the room ends; bytes past them are as they were

@@ -1,16 +1,14 @@
 // What a line is answered, before it is written, and its text.
-ghost use lib.ListN.{length, take};
-ghost use mathlib.Core.Path.{_≡_};
-ghost use Rattle·commands.specs.Answers.{answer-text};
-ghost use Rattle·desk·specs.declared.reply.Reply.the-variants.{Picked, Dispatch};
-ghost use Rattle·desk·specs.Replies.{list-reply, count-reply, truth-reply, pick-reply, write-reply, receive-reply, text-reply};
-ghost use Rattle·desk·specs.Replies.{shown, reply-text, Put};
-use commands::answer::Answer;
-use commands::answer::write_answer;
+ghost use Rattle.std.specs.Prelude.{◌≡◌, length, take};
+ghost use Rattle.commands.specs.Answers.{answer_text};
+ghost use Rattle.desk.specs.declared.reply.Reply.TheVariants.{Picked, Dispatch};
+ghost use Rattle.desk.specs.Replies.{list_reply, count_reply, truth_reply, pick_reply, write_reply, receive_reply, text_reply};
+ghost use Rattle.desk.specs.Replies.{shown, reply_text, Put};
+
+use commands::answer::{Answer, write_answer};
 use commands::output::TooShort;
 use store::fault::Fault;
-use texts::TextFault;
-use texts::TextSymbol;
+use texts::{TextFault, TextSymbol};
 use wire::faults::ReceiveFault;
 
 // The refusal of a line that is unreadable.
@@ -31,69 +29,69 @@ pub enum Reply {
     Refused(u8),
 }
 
-pub fn of_list(result: Result<u32, Fault>) -> Reply
-    ensures { λ r. ⌜ r ≡ list-reply result ⌝ }
+pub fn of_list(res: Result<u32, Fault>) -> Reply
+    ensures { result ≡ list_reply res }
 {
-    match result {
+    match res {
         Ok(n) => Reply::List(n),
         Err(fault) => Reply::Refused(fault.refusal().number),
     }
 }
 
-pub fn of_count(result: Result<u64, Fault>) -> Reply
-    ensures { λ r. ⌜ r ≡ count-reply result ⌝ }
+pub fn of_count(res: Result<u64, Fault>) -> Reply
+    ensures { result ≡ count_reply res }
 {
-    match result {
+    match res {
         Ok(n) => Reply::Count(n),
         Err(fault) => Reply::Refused(fault.refusal().number),
     }
 }
 
-pub fn of_truth(result: Result<bool, Fault>) -> Reply
-    ensures { λ r. ⌜ r ≡ truth-reply result ⌝ }
+pub fn of_truth(res: Result<bool, Fault>) -> Reply
+    ensures { result ≡ truth_reply res }
 {
-    match result {
+    match res {
         Ok(holds) => Reply::Truth(holds),
         Err(fault) => Reply::Refused(fault.refusal().number),
     }
 }
 
-pub fn of_pick(result: Result<usize, Fault>) -> Reply
-    ensures { λ r. ⌜ r ≡ pick-reply result ⌝ }
+pub fn of_pick(res: Result<usize, Fault>) -> Reply
+    ensures { result ≡ pick_reply res }
 {
-    match result {
+    match res {
         Ok(length) => Reply::Picked(length),
         Err(fault) => Reply::Refused(fault.refusal().number),
     }
 }
 
-pub fn of_write(result: Result<usize, Fault>) -> Reply
-    ensures { λ r. ⌜ r ≡ write-reply result ⌝ }
+pub fn of_write(res: Result<usize, Fault>) -> Reply
+    ensures { result ≡ write_reply res }
 {
-    match result {
+    match res {
         Ok(length) => Reply::Dispatch(length),
         Err(fault) => Reply::Refused(fault.refusal().number),
     }
 }
 
-pub fn of_receive(result: Result<u32, ReceiveFault>) -> Reply
-    ensures { λ r. ⌜ r ≡ receive-reply result ⌝ }
+pub fn of_receive(res: Result<u32, ReceiveFault>) -> Reply
+    ensures { result ≡ receive_reply res }
 {
-    match result {
+    match res {
         Ok(list) => Reply::List(list),
         Err(fault) => Reply::Refused(fault.refusal().number),
     }
 }
 
 pub fn of_text(fault: TextFault) -> Reply
-    ensures { λ r. ⌜ r ≡ text-reply fault ⌝ }
+    ensures { result ≡ text_reply fault }
 {
     Reply::Refused(fault.number())
 }
 
 // The answer of a reply, where `part` is the text of the code or the bytes of the dispatch, if it is one.
 fn answer_of<'a>(reply: Reply, part: &'a [u8]) -> Answer<'a>
-    ensures { λ r. ⌜ answer-text r ≡ reply-text (now (part .entry)) reply ⌝ }
+    ensures { answer_text result ≡ reply_text part.now reply }
 {
     match reply {
         Reply::List(n) => Answer::Number(u64::from(n)),
@@ -114,7 +112,7 @@ fn write_picked<S: TextSymbol>(
     text: &mut [u8],
     out: &mut [u8],
 ) -> Result<usize, TooShort>
-    ensures { λ r. ⌜ Put (S·TextSymbol .text (take count (now (code .entry)))) (Picked count) (length (now (text .entry))) (now (out .entry)) r (now (out .exit)) ⌝ }
+    ensures { Put (S.TextSymbol.text (take count code.now)) (Picked count) (length text.old) out.old result out.new }
 {
     let held = count.min(code.len());
     match S::write_code(&code[0..held], text) {
@@ -125,7 +123,7 @@ fn write_picked<S: TextSymbol>(
 
 // Writes the dispatch of this length at the start of `bytes`, as a line of hexadecimal text, to the start of `out`.
 fn write_dispatch(count: usize, bytes: &[u8], out: &mut [u8]) -> Result<usize, TooShort>
-    ensures { λ r. ⌜ Put (take count (now (bytes .entry))) (Dispatch count) (length (now (bytes .entry))) (now (out .entry)) r (now (out .exit)) ⌝ }
+    ensures { Put (take count bytes.now) (Dispatch count) (length bytes.now) out.old result out.new }
 {
     let held = count.min(bytes.len());
     write_answer(answer_of(Reply::Dispatch(count), &bytes[0..held]), out)
@@ -139,7 +137,7 @@ pub fn write_reply<S: TextSymbol>(
     bytes: &mut [u8],
     out: &mut [u8],
 ) -> Result<usize, TooShort>
-    ensures { λ r. ⌜ Put (shown (S·TextSymbol .text) (now (code .entry)) (now (bytes .entry)) reply) reply (length (now (bytes .entry))) (now (out .entry)) r (now (out .exit)) ⌝ }
+    ensures { Put (shown S.TextSymbol.text code.now bytes.old reply) reply (length bytes.old) out.old result out.new }
 {
     match reply {
         Reply::Picked(count) => write_picked(count, code, bytes, out),

@@ -1,31 +1,20 @@
 // Serving a line: it is read as a command, the command is called on the store, and the result is written.
-ghost use Prim.Native.Nat.{ℕ, _≤_, _*_};
-ghost use lib.ListN.{length};
-ghost use mathlib.Core.List.{List};
-ghost use mathlib.Core.Path.{_≡_};
-ghost use Rattle·std.specs.Vec.{made};
-ghost use Rattle·commands.specs.Grammar.{Says};
-ghost use Rattle·commands.specs.Hexadecimals.{Hexadecimal};
-ghost use Rattle·commands.specs.Meaning.{meaning};
-ghost use Rattle·store.specs.State.{state};
-ghost use Rattle·store.specs.Run.{Goes, Asks, Travels};
-ghost use Rattle·wire.specs.Records.{travel};
-ghost use Rattle·desk·specs.declared.reply.Reply.{Reply};
-ghost use Rattle·desk·specs.Replies.{shown, Put};
-ghost use Rattle·desk·specs.Desk.{Roomy, NoRoom, Fitted, AddsText, RemovesText, HoldsText, UndersText, ReceivesText, Calls, Serves};
-use crate::reply::Reply;
-use crate::reply::UNREADABLE;
-use crate::reply::of_count;
-use crate::reply::of_list;
-use crate::reply::of_pick;
-use crate::reply::of_receive;
-use crate::reply::of_text;
-use crate::reply::of_truth;
-use crate::reply::of_write;
-use crate::reply::write_reply;
-use commands::command::Command;
-use commands::command::MAX_LINE;
-use commands::command::read_command;
+ghost use Rattle.std.specs.Prelude.{◌≡◌, ℕ, ◌*◌, ◌≤◌, List, length, IfOk};
+ghost use Rattle.commands.specs.Grammar.{Says};
+ghost use Rattle.commands.specs.Hexadecimals.{Hexadecimal};
+ghost use Rattle.commands.specs.Meaning.{meaning};
+ghost use Rattle.store.specs.State.{state};
+ghost use Rattle.store.specs.Run.{Goes, Asks, Travels};
+ghost use Rattle.wire.specs.Records.{travel};
+ghost use Rattle.desk.specs.declared.reply.Reply.{Reply};
+ghost use Rattle.desk.specs.Replies.{shown, Put};
+ghost use Rattle.desk.specs.Desk.{Roomy, NoRoom, Fitted, AddsText, RemovesText, HoldsText, UndersText, ReceivesText, Calls, Serves};
+
+use crate::reply::{
+    Reply, UNREADABLE, of_count, of_list, of_pick, of_receive, of_text, of_truth, of_write,
+    write_reply,
+};
+use commands::command::{Command, MAX_LINE, read_command};
 use commands::hex::decode_hex;
 use commands::output::TooShort;
 use memory::recall::RecallTable;
@@ -33,8 +22,7 @@ use memory::shelf::Shelf;
 use memory::work::Place;
 use store::store::Store;
 use symbols::WireSymbol;
-use texts::TextFault;
-use texts::TextSymbol;
+use texts::{TextFault, TextSymbol};
 
 // The symbols that serving needs room for: one more than a code may have, so that a longer one shows.
 pub const CODE_ROOM: usize = 65;
@@ -45,8 +33,8 @@ pub const LONGEST_RECEIVED: usize = (MAX_LINE - 8) / 2;
 // Reads the code of a text to the start of `code`, as far as there is room, and answers how many symbols stand there.
 // With room for 65 a code that is too long still shows that it is.
 fn read_text<S: TextSymbol>(text: &[u8], code: &mut [S]) -> Result<usize, TextFault>
-    ensures within { λ r. ⌜ made r (λ n. n ≤ length (now (code .exit))) ⌝ }
-    ensures answer { λ r. ⌜ Fitted (S·TextSymbol .spells (now (text .entry))) (length (now (code .entry))) r (now (code .exit)) ⌝ }
+    ensures within { IfOk result (λ n. n ≤ length code.new) }
+    ensures answer { Fitted (S.TextSymbol.spells text.now) (length code.old) result code.new }
 {
     match S::read_code(text, code) {
         Ok(n) => Ok(n.min(code.len())),
@@ -61,8 +49,8 @@ fn add<S: TextSymbol, B: Shelf<S>, R: RecallTable>(
     code: &mut [S],
     work: &mut [Place],
 ) -> Reply
-    ensures answer { λ r. ⌜ (65 ≤ length (now (code .entry)) → Goes (S·Symbol .before) (B·Shelf .capacity (now (store .entry) .shelf)) (B·Shelf .ready (now (store .entry) .shelf)) (state (B·Shelf .vertices (now (store .entry) .shelf)) (R·RecallTable .table (now (store .entry) .recall))) (B·Shelf .ready (now (store .exit) .shelf)) (state (B·Shelf .vertices (now (store .exit) .shelf)) (R·RecallTable .table (now (store .exit) .recall))) (AddsText (S·Symbol .before) (S·TextSymbol .spells) (B·Shelf .capacity (now (store .entry) .shelf)) (state (B·Shelf .vertices (now (store .entry) .shelf)) (R·RecallTable .table (now (store .entry) .recall))) (now (work .entry)) list (now (text .entry)) r (state (B·Shelf .vertices (now (store .exit) .shelf)) (R·RecallTable .table (now (store .exit) .recall))))) ⌝ }
-    ensures size { λ _. ⌜ B·Shelf .capacity (now (store .exit) .shelf) ≡ B·Shelf .capacity (now (store .entry) .shelf) ⌝ }
+    ensures answer { 65 ≤ length code.old → Goes S.Symbol.before (B.Shelf.capacity store.old.shelf) (B.Shelf.ready store.old.shelf) (state (B.Shelf.vertices store.old.shelf) (R.RecallTable.table store.old.recall)) (B.Shelf.ready store.new.shelf) (state (B.Shelf.vertices store.new.shelf) (R.RecallTable.table store.new.recall)) (AddsText S.Symbol.before S.TextSymbol.spells (B.Shelf.capacity store.old.shelf) (state (B.Shelf.vertices store.old.shelf) (R.RecallTable.table store.old.recall)) work.old list text.now result (state (B.Shelf.vertices store.new.shelf) (R.RecallTable.table store.new.recall))) }
+    ensures size { B.Shelf.capacity store.new.shelf ≡ B.Shelf.capacity store.old.shelf }
 {
     match read_text(text, code) {
         Ok(n) => of_list(store.add(list, &code[0..n], work)),
@@ -77,8 +65,8 @@ fn remove<S: TextSymbol, B: Shelf<S>, R: RecallTable>(
     code: &mut [S],
     work: &mut [Place],
 ) -> Reply
-    ensures answer { λ r. ⌜ (65 ≤ length (now (code .entry)) → Goes (S·Symbol .before) (B·Shelf .capacity (now (store .entry) .shelf)) (B·Shelf .ready (now (store .entry) .shelf)) (state (B·Shelf .vertices (now (store .entry) .shelf)) (R·RecallTable .table (now (store .entry) .recall))) (B·Shelf .ready (now (store .exit) .shelf)) (state (B·Shelf .vertices (now (store .exit) .shelf)) (R·RecallTable .table (now (store .exit) .recall))) (RemovesText (S·Symbol .before) (S·TextSymbol .spells) (B·Shelf .capacity (now (store .entry) .shelf)) (state (B·Shelf .vertices (now (store .entry) .shelf)) (R·RecallTable .table (now (store .entry) .recall))) (now (work .entry)) list (now (text .entry)) r (state (B·Shelf .vertices (now (store .exit) .shelf)) (R·RecallTable .table (now (store .exit) .recall))))) ⌝ }
-    ensures size { λ _. ⌜ B·Shelf .capacity (now (store .exit) .shelf) ≡ B·Shelf .capacity (now (store .entry) .shelf) ⌝ }
+    ensures answer { 65 ≤ length code.old → Goes S.Symbol.before (B.Shelf.capacity store.old.shelf) (B.Shelf.ready store.old.shelf) (state (B.Shelf.vertices store.old.shelf) (R.RecallTable.table store.old.recall)) (B.Shelf.ready store.new.shelf) (state (B.Shelf.vertices store.new.shelf) (R.RecallTable.table store.new.recall)) (RemovesText S.Symbol.before S.TextSymbol.spells (B.Shelf.capacity store.old.shelf) (state (B.Shelf.vertices store.old.shelf) (R.RecallTable.table store.old.recall)) work.old list text.now result (state (B.Shelf.vertices store.new.shelf) (R.RecallTable.table store.new.recall))) }
+    ensures size { B.Shelf.capacity store.new.shelf ≡ B.Shelf.capacity store.old.shelf }
 {
     match read_text(text, code) {
         Ok(n) => of_list(store.remove(list, &code[0..n], work)),
@@ -92,7 +80,7 @@ fn holds<S: TextSymbol, B: Shelf<S>, R: RecallTable>(
     text: &[u8],
     code: &mut [S],
 ) -> Reply
-    ensures { λ r. ⌜ (65 ≤ length (now (code .entry)) → Asks (S·Symbol .before) (B·Shelf .capacity (now (store .entry) .shelf)) (B·Shelf .ready (now (store .entry) .shelf)) (state (B·Shelf .vertices (now (store .entry) .shelf)) (R·RecallTable .table (now (store .entry) .recall))) (HoldsText (S·Symbol .before) (S·TextSymbol .spells) (B·Shelf .capacity (now (store .entry) .shelf)) (state (B·Shelf .vertices (now (store .entry) .shelf)) (R·RecallTable .table (now (store .entry) .recall))) list (now (text .entry)) r (state (B·Shelf .vertices (now (store .entry) .shelf)) (R·RecallTable .table (now (store .entry) .recall))))) ⌝ }
+    ensures { 65 ≤ length code.old → Asks S.Symbol.before (B.Shelf.capacity store.now.shelf) (B.Shelf.ready store.now.shelf) (state (B.Shelf.vertices store.now.shelf) (R.RecallTable.table store.now.recall)) (HoldsText S.Symbol.before S.TextSymbol.spells (B.Shelf.capacity store.now.shelf) (state (B.Shelf.vertices store.now.shelf) (R.RecallTable.table store.now.recall)) list text.now result (state (B.Shelf.vertices store.now.shelf) (R.RecallTable.table store.now.recall))) }
 {
     match read_text(text, code) {
         Ok(n) => of_truth(store.holds(list, &code[0..n])),
@@ -106,7 +94,7 @@ fn under<S: TextSymbol, B: Shelf<S>, R: RecallTable>(
     text: &[u8],
     code: &mut [S],
 ) -> Reply
-    ensures { λ r. ⌜ (65 ≤ length (now (code .entry)) → Asks (S·Symbol .before) (B·Shelf .capacity (now (store .entry) .shelf)) (B·Shelf .ready (now (store .entry) .shelf)) (state (B·Shelf .vertices (now (store .entry) .shelf)) (R·RecallTable .table (now (store .entry) .recall))) (UndersText (S·Symbol .before) (S·TextSymbol .spells) (B·Shelf .capacity (now (store .entry) .shelf)) (state (B·Shelf .vertices (now (store .entry) .shelf)) (R·RecallTable .table (now (store .entry) .recall))) list (now (text .entry)) r (state (B·Shelf .vertices (now (store .entry) .shelf)) (R·RecallTable .table (now (store .entry) .recall))))) ⌝ }
+    ensures { 65 ≤ length code.old → Asks S.Symbol.before (B.Shelf.capacity store.now.shelf) (B.Shelf.ready store.now.shelf) (state (B.Shelf.vertices store.now.shelf) (R.RecallTable.table store.now.recall)) (UndersText S.Symbol.before S.TextSymbol.spells (B.Shelf.capacity store.now.shelf) (state (B.Shelf.vertices store.now.shelf) (R.RecallTable.table store.now.recall)) list text.now result (state (B.Shelf.vertices store.now.shelf) (R.RecallTable.table store.now.recall))) }
 {
     match read_text(text, code) {
         Ok(n) => of_list(store.under(list, &code[0..n])),
@@ -121,8 +109,8 @@ fn receive<S: WireSymbol, B: Shelf<S>, R: RecallTable>(
     bytes: &mut [u8],
     work: &mut [Place],
 ) -> Reply
-    ensures answer { λ r. ⌜ (Hexadecimal (now (hex .entry)) → length (now (hex .entry)) ≤ 2 * length (now (bytes .entry)) → Travels (S·Symbol .before) (travel (S·WireSymbol .kind) (S·WireSymbol .width) (S·WireSymbol .bytes) (S·WireSymbol .reads)) (B·Shelf .capacity (now (store .entry) .shelf)) (B·Shelf .ready (now (store .entry) .shelf)) (state (B·Shelf .vertices (now (store .entry) .shelf)) (R·RecallTable .table (now (store .entry) .recall))) (B·Shelf .ready (now (store .exit) .shelf)) (state (B·Shelf .vertices (now (store .exit) .shelf)) (R·RecallTable .table (now (store .exit) .recall))) (ReceivesText (S·Symbol .before) (B·Shelf .capacity (now (store .entry) .shelf)) (travel (S·WireSymbol .kind) (S·WireSymbol .width) (S·WireSymbol .bytes) (S·WireSymbol .reads)) (state (B·Shelf .vertices (now (store .entry) .shelf)) (R·RecallTable .table (now (store .entry) .recall))) (now (work .entry)) (now (hex .entry)) r (state (B·Shelf .vertices (now (store .exit) .shelf)) (R·RecallTable .table (now (store .exit) .recall))))) ⌝ }
-    ensures size { λ _. ⌜ B·Shelf .capacity (now (store .exit) .shelf) ≡ B·Shelf .capacity (now (store .entry) .shelf) ⌝ }
+    ensures answer { Hexadecimal hex.now → length hex.now ≤ 2 * length bytes.old → Travels S.Symbol.before (travel S.WireSymbol.kind S.WireSymbol.width S.WireSymbol.bytes S.WireSymbol.reads) (B.Shelf.capacity store.old.shelf) (B.Shelf.ready store.old.shelf) (state (B.Shelf.vertices store.old.shelf) (R.RecallTable.table store.old.recall)) (B.Shelf.ready store.new.shelf) (state (B.Shelf.vertices store.new.shelf) (R.RecallTable.table store.new.recall)) (ReceivesText S.Symbol.before (B.Shelf.capacity store.old.shelf) (travel S.WireSymbol.kind S.WireSymbol.width S.WireSymbol.bytes S.WireSymbol.reads) (state (B.Shelf.vertices store.old.shelf) (R.RecallTable.table store.old.recall)) work.old hex.now result (state (B.Shelf.vertices store.new.shelf) (R.RecallTable.table store.new.recall))) }
+    ensures size { B.Shelf.capacity store.new.shelf ≡ B.Shelf.capacity store.old.shelf }
 {
     match decode_hex(hex, bytes) {
         Ok(n) => of_receive(store.receive(&bytes[0..n], work)),
@@ -137,8 +125,8 @@ fn perform<S: TextSymbol + WireSymbol, B: Shelf<S>, R: RecallTable>(
     bytes: &mut [u8],
     work: &mut [Place],
 ) -> Reply
-    ensures answer { λ r. ⌜ ((line : List ℕ) → Says line (meaning (command .entry)) → Roomy (length (now (code .entry))) (length (now (bytes .entry))) → Travels (S·Symbol .before) (travel (S·WireSymbol .kind) (S·WireSymbol .width) (S·WireSymbol .bytes) (S·WireSymbol .reads)) (B·Shelf .capacity (now (store .entry) .shelf)) (B·Shelf .ready (now (store .entry) .shelf)) (state (B·Shelf .vertices (now (store .entry) .shelf)) (R·RecallTable .table (now (store .entry) .recall))) (B·Shelf .ready (now (store .exit) .shelf)) (state (B·Shelf .vertices (now (store .exit) .shelf)) (R·RecallTable .table (now (store .exit) .recall))) (Calls (S·Symbol .before) (S·TextSymbol .spells) (B·Shelf .capacity (now (store .entry) .shelf)) (travel (S·WireSymbol .kind) (S·WireSymbol .width) (S·WireSymbol .bytes) (S·WireSymbol .reads)) (state (B·Shelf .vertices (now (store .entry) .shelf)) (R·RecallTable .table (now (store .entry) .recall))) (now (work .entry)) (now (code .entry)) (now (bytes .entry)) (meaning (command .entry)) r (state (B·Shelf .vertices (now (store .exit) .shelf)) (R·RecallTable .table (now (store .exit) .recall))) (now (code .exit)) (now (bytes .exit)))) ⌝ }
-    ensures size { λ _. ⌜ B·Shelf .capacity (now (store .exit) .shelf) ≡ B·Shelf .capacity (now (store .entry) .shelf) ⌝ }
+    ensures answer { (line : List ℕ) → Says line (meaning command.entry) → Roomy (length code.old) (length bytes.old) → Travels S.Symbol.before (travel S.WireSymbol.kind S.WireSymbol.width S.WireSymbol.bytes S.WireSymbol.reads) (B.Shelf.capacity store.old.shelf) (B.Shelf.ready store.old.shelf) (state (B.Shelf.vertices store.old.shelf) (R.RecallTable.table store.old.recall)) (B.Shelf.ready store.new.shelf) (state (B.Shelf.vertices store.new.shelf) (R.RecallTable.table store.new.recall)) (Calls S.Symbol.before S.TextSymbol.spells (B.Shelf.capacity store.old.shelf) (travel S.WireSymbol.kind S.WireSymbol.width S.WireSymbol.bytes S.WireSymbol.reads) (state (B.Shelf.vertices store.old.shelf) (R.RecallTable.table store.old.recall)) work.old code.old bytes.old (meaning command.entry) result (state (B.Shelf.vertices store.new.shelf) (R.RecallTable.table store.new.recall)) code.new bytes.new) }
+    ensures size { B.Shelf.capacity store.new.shelf ≡ B.Shelf.capacity store.old.shelf }
 {
     match command {
         Command::Add { list, code: text } => add(store, list, text, code, work),
@@ -165,8 +153,8 @@ fn reply_to<S: TextSymbol + WireSymbol, B: Shelf<S>, R: RecallTable>(
     bytes: &mut [u8],
     work: &mut [Place],
 ) -> Reply
-    ensures answer { λ r. ⌜ (Roomy (length (now (code .entry))) (length (now (bytes .entry))) → Travels (S·Symbol .before) (travel (S·WireSymbol .kind) (S·WireSymbol .width) (S·WireSymbol .bytes) (S·WireSymbol .reads)) (B·Shelf .capacity (now (store .entry) .shelf)) (B·Shelf .ready (now (store .entry) .shelf)) (state (B·Shelf .vertices (now (store .entry) .shelf)) (R·RecallTable .table (now (store .entry) .recall))) (B·Shelf .ready (now (store .exit) .shelf)) (state (B·Shelf .vertices (now (store .exit) .shelf)) (R·RecallTable .table (now (store .exit) .recall))) (Serves (S·Symbol .before) (S·TextSymbol .spells) (B·Shelf .capacity (now (store .entry) .shelf)) (travel (S·WireSymbol .kind) (S·WireSymbol .width) (S·WireSymbol .bytes) (S·WireSymbol .reads)) (state (B·Shelf .vertices (now (store .entry) .shelf)) (R·RecallTable .table (now (store .entry) .recall))) (now (work .entry)) (now (code .entry)) (now (bytes .entry)) (now (line .entry)) r (state (B·Shelf .vertices (now (store .exit) .shelf)) (R·RecallTable .table (now (store .exit) .recall))) (now (code .exit)) (now (bytes .exit)))) ⌝ }
-    ensures size { λ _. ⌜ B·Shelf .capacity (now (store .exit) .shelf) ≡ B·Shelf .capacity (now (store .entry) .shelf) ⌝ }
+    ensures answer { Roomy (length code.old) (length bytes.old) → Travels S.Symbol.before (travel S.WireSymbol.kind S.WireSymbol.width S.WireSymbol.bytes S.WireSymbol.reads) (B.Shelf.capacity store.old.shelf) (B.Shelf.ready store.old.shelf) (state (B.Shelf.vertices store.old.shelf) (R.RecallTable.table store.old.recall)) (B.Shelf.ready store.new.shelf) (state (B.Shelf.vertices store.new.shelf) (R.RecallTable.table store.new.recall)) (Serves S.Symbol.before S.TextSymbol.spells (B.Shelf.capacity store.old.shelf) (travel S.WireSymbol.kind S.WireSymbol.width S.WireSymbol.bytes S.WireSymbol.reads) (state (B.Shelf.vertices store.old.shelf) (R.RecallTable.table store.old.recall)) work.old code.old bytes.old line.now result (state (B.Shelf.vertices store.new.shelf) (R.RecallTable.table store.new.recall)) code.new bytes.new) }
+    ensures size { B.Shelf.capacity store.new.shelf ≡ B.Shelf.capacity store.old.shelf }
 {
     match read_command(line) {
         Some(command) => perform(store, command, code, bytes, work),
@@ -184,10 +172,10 @@ pub fn serve<S: TextSymbol + WireSymbol, B: Shelf<S>, R: RecallTable>(
     work: &mut [Place],
     out: &mut [u8],
 ) -> Result<usize, TooShort>
-    ensures within { λ r. ⌜ made r (λ n. n ≤ length (now (out .exit))) ⌝ }
-    ensures answer { λ r. ⌜ (Roomy (length (now (code .entry))) (length (now (bytes .entry))) → (reply : Reply) × (sent : List ℕ) × Put (shown (S·TextSymbol .text) (now (code .exit)) sent reply) reply (length (now (bytes .entry))) (now (out .entry)) r (now (out .exit)) × Travels (S·Symbol .before) (travel (S·WireSymbol .kind) (S·WireSymbol .width) (S·WireSymbol .bytes) (S·WireSymbol .reads)) (B·Shelf .capacity (now (store .entry) .shelf)) (B·Shelf .ready (now (store .entry) .shelf)) (state (B·Shelf .vertices (now (store .entry) .shelf)) (R·RecallTable .table (now (store .entry) .recall))) (B·Shelf .ready (now (store .exit) .shelf)) (state (B·Shelf .vertices (now (store .exit) .shelf)) (R·RecallTable .table (now (store .exit) .recall))) (Serves (S·Symbol .before) (S·TextSymbol .spells) (B·Shelf .capacity (now (store .entry) .shelf)) (travel (S·WireSymbol .kind) (S·WireSymbol .width) (S·WireSymbol .bytes) (S·WireSymbol .reads)) (state (B·Shelf .vertices (now (store .entry) .shelf)) (R·RecallTable .table (now (store .entry) .recall))) (now (work .entry)) (now (code .entry)) (now (bytes .entry)) (now (line .entry)) reply (state (B·Shelf .vertices (now (store .exit) .shelf)) (R·RecallTable .table (now (store .exit) .recall))) (now (code .exit)) sent)) ⌝ }
-    ensures refused { λ r. ⌜ ((Roomy (length (now (code .entry))) (length (now (bytes .entry))) → ⊥) → NoRoom r (now (out .entry)) (now (out .exit)) × (now (store .exit) ≡ now (store .entry))) ⌝ }
-    ensures size { λ _. ⌜ B·Shelf .capacity (now (store .exit) .shelf) ≡ B·Shelf .capacity (now (store .entry) .shelf) ⌝ }
+    ensures within { IfOk result (λ n. n ≤ length out.new) }
+    ensures answer { Roomy (length code.old) (length bytes.old) → (reply : Reply) × (sent : List ℕ) × Put (shown S.TextSymbol.text code.new sent reply) reply (length bytes.old) out.old result out.new × Travels S.Symbol.before (travel S.WireSymbol.kind S.WireSymbol.width S.WireSymbol.bytes S.WireSymbol.reads) (B.Shelf.capacity store.old.shelf) (B.Shelf.ready store.old.shelf) (state (B.Shelf.vertices store.old.shelf) (R.RecallTable.table store.old.recall)) (B.Shelf.ready store.new.shelf) (state (B.Shelf.vertices store.new.shelf) (R.RecallTable.table store.new.recall)) (Serves S.Symbol.before S.TextSymbol.spells (B.Shelf.capacity store.old.shelf) (travel S.WireSymbol.kind S.WireSymbol.width S.WireSymbol.bytes S.WireSymbol.reads) (state (B.Shelf.vertices store.old.shelf) (R.RecallTable.table store.old.recall)) work.old code.old bytes.old line.now reply (state (B.Shelf.vertices store.new.shelf) (R.RecallTable.table store.new.recall)) code.new sent) }
+    ensures refused { (Roomy (length code.old) (length bytes.old) → ⊥) → NoRoom result out.old out.new × (store.new ≡ store.old) }
+    ensures size { B.Shelf.capacity store.new.shelf ≡ B.Shelf.capacity store.old.shelf }
 {
     if code.len() < CODE_ROOM || bytes.len() < LONGEST_RECEIVED {
         return Err(TooShort);

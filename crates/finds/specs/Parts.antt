@@ -1,7 +1,7 @@
 -- How many bytes of a line are held.
-use Prim.Native.Nat.{ℕ, _≤_}
-use Rattle·finds·specs.declared.input.Part.{Part}
-use Rattle·finds·specs.declared.input.Part.the-variants.{End, More, Line}
+use Rattle.std.specs.Prelude.{ℕ, ◌≤◌}
+use Rattle.finds.specs.declared.input.Part.{Part}
+use Rattle.finds.specs.declared.input.Part.TheVariants.{End, More, Line}
 
 -- no more than there is room for
 abbrev pub Within : ℕ → Part → Type 0

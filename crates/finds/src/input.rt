@@ -1,20 +1,10 @@
 // Lines of standard input. Chunks are read as bytes and cut at line feeds; nothing is decoded.
-ghost use Prim.Native.Nat.{_≤_};
-ghost use lib.ListN.{length};
-ghost use Rattle·std.specs.Options.{Cases};
-ghost use Rattle·std.specs.Vec.{made};
-ghost use Rattle·finds·specs.Parts.{Within};
-use desk::lines::find_line_feed;
-use desk::lines::hold;
+ghost use Rattle.std.specs.Prelude.{◌≤◌, length, IfSome, IfOk};
+ghost use Rattle.finds.specs.Parts.{Within};
+
+use desk::lines::{find_line_feed, hold};
 use std::io;
-use std::io::BufRead;
-use std::io::BufReader;
-use std::io::BufWriter;
-use std::io::Error;
-use std::io::ErrorKind;
-use std::io::Stdin;
-use std::io::Stdout;
-use std::io::Write;
+use std::io::{BufRead, BufReader, BufWriter, Error, ErrorKind, Stdin, Stdout, Write};
 
 // What a chunk had of a line, of which so many bytes are held.
 enum Part {
@@ -28,8 +18,8 @@ enum Part {
 
 // Takes what the next chunk has of a line.
 fn take_part(input: &mut BufReader<Stdin>, line: &mut [u8], held: usize) -> io::Result<Part>
-    requires { ⌜ held ≤ length (now line) ⌝ }
-    ensures { λ r. ⌜ made r (λ part. Within (length (now (line .exit))) part) ⌝ }
+    requires { held ≤ length line.old }
+    ensures { IfOk result (λ part. Within (length line.new) part) }
 {
     let chunk = input.fill_buf()?;
     if chunk.is_empty() {
@@ -57,7 +47,7 @@ pub fn next_line(
     output: &mut BufWriter<Stdout>,
     line: &mut [u8],
 ) -> io::Result<Option<usize>>
-    ensures { λ r. ⌜ made r (λ o. Cases o (Unit {0}) (λ n. n ≤ length (now (line .exit)))) ⌝ }
+    ensures { IfOk result (λ o. IfSome o (λ n. n ≤ length line.new)) }
 {
     let mut held = 0;
     for _ in 0..u64::MAX {

@@ -2,26 +2,18 @@
 //
 // The first line names the kind of symbol. All memory is taken at the start; a line costs what its call costs, and besides
 // only time in its own length. Answers are written out before a read that may have to wait.
+#![tactic(auto)]
+
 mod input;
 mod session;
 
 use commands::command::MAX_LINE;
-use commands::kinds::Kind;
-use commands::kinds::read_kind;
+use commands::kinds::{Kind, read_kind};
 use letters::Letter;
-use letters::LetterSymbol;
-use letters::LetterText;
-use letters::LetterWire;
 use session::converse;
 use std::io;
-use std::io::BufReader;
-use std::io::BufWriter;
-use std::io::Write;
-use steps::Step;
-use steps::StepSymbol;
-use steps::StepText;
-use steps::StepWire;
-use steps::Unit;
+use std::io::{BufReader, BufWriter, Write};
+use steps::{Step, Unit};
 
 // A line is held with room for one byte more than it may have: so a longer one shows.
 const LINE_ROOM: usize = MAX_LINE + 1;
@@ -34,10 +26,10 @@ const STEP: Step = Step {
     number: 0,
 };
 
-fn main(rt: LibcRuntime) -> io::Result<()> {
+fn main(rt: HostRuntime) -> io::Result<()> {
     let heap = rt.alloc();
-    let mut input = BufReader::new(rt.stdin());
-    let mut output = BufWriter::new(rt.stdout());
+    let mut input = BufReader::new(heap, rt.stdin())?;
+    let mut output = BufWriter::new(heap, rt.stdout())?;
     let mut line = vec![in heap; 0u8; LINE_ROOM]?;
     let Some(held) = input::next_line(&mut input, &mut output, &mut line)? else {
         return Ok(());

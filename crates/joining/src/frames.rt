@@ -1,9 +1,8 @@
 // A frame: a pair that is being joined, kept in a place of work space. The place's `list` and `other` are the pair. Its
 // `state` is 0 while the outer lists are being joined; after that `number` is their number.
-ghost use Prim.Native.Nat.{_<_};
-ghost use lib.ListN.{length, set};
-ghost use mathlib.Core.Path.{_≡_};
-ghost use Rattle·joining·specs.Frames.{frame-of, place-of, frame-at};
+ghost use Rattle.std.specs.Prelude.{◌≡◌, ◌<◌, length, slice_set};
+ghost use Rattle.joining.specs.Frames.{frame_of, place_of, frame_at};
+
 use crate::pairs::Pair;
 use memory::work::Place;
 
@@ -21,7 +20,7 @@ pub struct Frame {
 }
 
 fn from_place(place: Place) -> Frame
-    ensures { λ r. ⌜ r ≡ frame-of place ⌝ }
+    ensures { result ≡ frame_of place }
 {
     let stage = if place.state == 0 {
         Stage::Outer
@@ -38,7 +37,7 @@ fn from_place(place: Place) -> Frame
 }
 
 fn to_place(frame: Frame) -> Place
-    ensures { λ r. ⌜ r ≡ place-of frame ⌝ }
+    ensures { result ≡ place_of frame }
 {
     let Pair { first, second } = frame.pair;
     match frame.stage {
@@ -60,15 +59,15 @@ fn to_place(frame: Frame) -> Place
 }
 
 pub(crate) fn read_frame(work: &[Place], i: usize) -> Frame
-    requires { ⌜ i < length (now work) ⌝ }
-    ensures { λ r. ⌜ r ≡ frame-at (now (work .entry)) i ⌝ }
+    requires { i < length work.now }
+    ensures { result ≡ frame_at work.now i }
 {
     from_place(work[i])
 }
 
 pub(crate) fn write_frame(work: &mut [Place], i: usize, frame: Frame)
-    requires { ⌜ i < length (now work) ⌝ }
-    ensures { λ _. ⌜ now (work .exit) ≡ set (now (work .entry)) i (place-of frame) ⌝ }
+    requires { i < length work.old }
+    ensures { work.new ≡ slice_set work.old i (place_of frame) }
 {
     work[i] = to_place(frame);
 }

@@ -4,26 +4,20 @@
 // shelf is full exactly where the ledger says so. A pair that the recall table knows, and one that the rule settles, is
 // not walked: with a table that keeps all, a pair is walked once at most. The work space needs a place for each frame,
 // and there are never more frames than the sum of the two numbers.
-ghost use Prim.Native.Nat.{_+_, _<_, _≤_};
-ghost use lib.ListN.{length, take};
-ghost use mathlib.Core.Bool.{true};
-ghost use mathlib.Core.Path.{_≡_};
-ghost use Rattle·std.specs.Results.{isErr};
-ghost use Rattle·std.specs.declared.option.Option.the-variants.{None};
-ghost use Rattle·memory.specs.declared.recall.Question.{Question};
-ghost use Rattle·joining·specs.Rules.{number-of};
-ghost use Rattle·joining·specs.Recalled.{Joins};
-ghost use Rattle·joining·specs.Pairs.{sum};
-ghost use Rattle·joining·specs.Walks.{Walks};
+#![tactic(auto)]
+
+ghost use Rattle.std.specs.Prelude.{◌≡◌, ◌+◌, ◌<◌, ◌≤◌, true, length, take, is_err, None};
+ghost use Rattle.memory.specs.declared.recall.Question.{Question};
+ghost use Rattle.joining.specs.Rules.{number_of};
+ghost use Rattle.joining.specs.Recalled.{Joins};
+ghost use Rattle.joining.specs.Pairs.{sum};
+ghost use Rattle.joining.specs.Walks.{Walks};
+
 use crate::pairs::Pair;
 use crate::rule::Rule;
-use crate::turns::State;
-use crate::turns::Turn;
-use crate::turns::advance;
-use crate::turns::ended;
+use crate::turns::{State, Turn, advance, ended};
 use memory::recall::RecallTable;
-use memory::shelf::Full;
-use memory::shelf::Shelf;
+use memory::shelf::{Full, Shelf};
 use memory::work::Place;
 use symbols::Symbol;
 
@@ -40,11 +34,11 @@ fn walk<S: Symbol, B: Shelf<S>, R: RecallTable>(
     pair: Pair,
     work: &mut [Place],
 ) -> Result<u32, Full>
-    requires { ⌜ sum pair ≤ length (now work) ⌝ }
-    ensures answer { λ r. ⌜ (B·Shelf .ready (now (shelf .entry)) → Walks (S·Symbol .before) (B·Shelf .capacity (now (shelf .entry))) (number-of rule) pair
-        (B·Shelf .vertices (now (shelf .entry))) (R·RecallTable .table (now (recall .entry))) r (B·Shelf .vertices (now (shelf .exit))) (R·RecallTable .table (now (recall .exit)))) ⌝ }
-    ensures ready { λ _. ⌜ (B·Shelf .ready (now (shelf .entry)) → B·Shelf .ready (now (shelf .exit))) ⌝ }
-    ensures size { λ _. ⌜ B·Shelf .capacity (now (shelf .exit)) ≡ B·Shelf .capacity (now (shelf .entry)) ⌝ }
+    requires { sum pair ≤ length work.old }
+    ensures answer { B.Shelf.ready shelf.old → Walks S.Symbol.before (B.Shelf.capacity shelf.old) (number_of rule) pair
+        (B.Shelf.vertices shelf.old) (R.RecallTable.table recall.old) result (B.Shelf.vertices shelf.new) (R.RecallTable.table recall.new) }
+    ensures ready { B.Shelf.ready shelf.old → B.Shelf.ready shelf.new }
+    ensures size { B.Shelf.capacity shelf.new ≡ B.Shelf.capacity shelf.old }
 {
     let mut state = State {
         height: 0,
@@ -60,10 +54,10 @@ fn walk<S: Symbol, B: Shelf<S>, R: RecallTable>(
 
 // Undoes what a join has appended after the first `start` vertices, and forgets what it has told.
 fn undo<S: Symbol, B: Shelf<S>, R: RecallTable>(shelf: &mut B, recall: &mut R, start: u32)
-    ensures vertices { λ _. ⌜ B·Shelf .vertices (now (shelf .exit)) ≡ take start (B·Shelf .vertices (now (shelf .entry))) ⌝ }
-    ensures refused { λ _. ⌜ ((q : Question) → R·RecallTable .table (now (recall .exit)) q ≡ None) ⌝ }
-    ensures ready { λ _. ⌜ (B·Shelf .ready (now (shelf .entry)) → B·Shelf .ready (now (shelf .exit))) ⌝ }
-    ensures size { λ _. ⌜ B·Shelf .capacity (now (shelf .exit)) ≡ B·Shelf .capacity (now (shelf .entry)) ⌝ }
+    ensures vertices { B.Shelf.vertices shelf.new ≡ take start (B.Shelf.vertices shelf.old) }
+    ensures refused { (q : Question) → R.RecallTable.table recall.new q ≡ None }
+    ensures ready { B.Shelf.ready shelf.old → B.Shelf.ready shelf.new }
+    ensures size { B.Shelf.capacity shelf.new ≡ B.Shelf.capacity shelf.old }
 {
     shelf.cut(start);
     recall.forget();
@@ -77,12 +71,12 @@ fn lay_down<S: Symbol, B: Shelf<S>, R: RecallTable>(
     pair: Pair,
     work: &mut [Place],
 ) -> Result<u32, Full>
-    requires { ⌜ sum pair ≤ length (now work) ⌝ }
-    ensures answer { λ r. ⌜ (B·Shelf .ready (now (shelf .entry)) → Joins (S·Symbol .before) (B·Shelf .capacity (now (shelf .entry))) (number-of rule) (pair .first) (pair .second)
-        (B·Shelf .vertices (now (shelf .entry))) (R·RecallTable .table (now (recall .entry))) r (B·Shelf .vertices (now (shelf .exit))) (R·RecallTable .table (now (recall .exit)))) ⌝ }
-    ensures refused { λ r. ⌜ (isErr r ≡ true → (q : Question) → R·RecallTable .table (now (recall .exit)) q ≡ None) ⌝ }
-    ensures ready { λ _. ⌜ (B·Shelf .ready (now (shelf .entry)) → B·Shelf .ready (now (shelf .exit))) ⌝ }
-    ensures size { λ _. ⌜ B·Shelf .capacity (now (shelf .exit)) ≡ B·Shelf .capacity (now (shelf .entry)) ⌝ }
+    requires { sum pair ≤ length work.old }
+    ensures answer { B.Shelf.ready shelf.old → Joins S.Symbol.before (B.Shelf.capacity shelf.old) (number_of rule) pair.first pair.second
+        (B.Shelf.vertices shelf.old) (R.RecallTable.table recall.old) result (B.Shelf.vertices shelf.new) (R.RecallTable.table recall.new) }
+    ensures refused { is_err result ≡ true → (q : Question) → R.RecallTable.table recall.new q ≡ None }
+    ensures ready { B.Shelf.ready shelf.old → B.Shelf.ready shelf.new }
+    ensures size { B.Shelf.capacity shelf.new ≡ B.Shelf.capacity shelf.old }
 {
     let start = shelf.used();
     match walk(shelf, recall, rule, pair, work) {
@@ -104,12 +98,12 @@ pub fn join<S: Symbol, B: Shelf<S>, R: RecallTable>(
     second: u32,
     work: &mut [Place],
 ) -> Result<u32, Full>
-    requires { ⌜ first + second ≤ length (now work) ⌝ }
-    ensures answer { λ r. ⌜ (B·Shelf .ready (now (shelf .entry)) → Joins (S·Symbol .before) (B·Shelf .capacity (now (shelf .entry))) (number-of rule) first second
-        (B·Shelf .vertices (now (shelf .entry))) (R·RecallTable .table (now (recall .entry))) r (B·Shelf .vertices (now (shelf .exit))) (R·RecallTable .table (now (recall .exit)))) ⌝ }
-    ensures refused { λ r. ⌜ (isErr r ≡ true → (q : Question) → R·RecallTable .table (now (recall .exit)) q ≡ None) ⌝ }
-    ensures ready { λ _. ⌜ (B·Shelf .ready (now (shelf .entry)) → B·Shelf .ready (now (shelf .exit))) ⌝ }
-    ensures size { λ _. ⌜ B·Shelf .capacity (now (shelf .exit)) ≡ B·Shelf .capacity (now (shelf .entry)) ⌝ }
+    requires { first + second ≤ length work.old }
+    ensures answer { B.Shelf.ready shelf.old → Joins S.Symbol.before (B.Shelf.capacity shelf.old) (number_of rule) first second
+        (B.Shelf.vertices shelf.old) (R.RecallTable.table recall.old) result (B.Shelf.vertices shelf.new) (R.RecallTable.table recall.new) }
+    ensures refused { is_err result ≡ true → (q : Question) → R.RecallTable.table recall.new q ≡ None }
+    ensures ready { B.Shelf.ready shelf.old → B.Shelf.ready shelf.new }
+    ensures size { B.Shelf.capacity shelf.new ≡ B.Shelf.capacity shelf.old }
 {
     lay_down(shelf, recall, rule, Pair { first, second }, work)
 }

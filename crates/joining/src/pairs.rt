@@ -1,10 +1,9 @@
 // A pair of list numbers that are to be joined, and how it is taken apart.
-ghost use Prim.Native.Nat.{_<_};
-ghost use mathlib.Core.Bool.{true, false, cond};
-ghost use mathlib.Core.Path.{_≡_};
-ghost use Rattle·ledger.specs.Diagrams.{Formed};
-ghost use Rattle·joining·specs.Rules.{number-of};
-ghost use Rattle·joining·specs.Pairs.{Settles, Falls, parted, apart, asked, first-alone, second-alone, by-heads};
+ghost use Rattle.std.specs.Prelude.{◌≡◌, ◌<◌, true, false, if◌then◌else◌};
+ghost use Rattle.ledger.specs.Diagrams.{Formed};
+ghost use Rattle.joining.specs.Rules.{number_of};
+ghost use Rattle.joining.specs.Pairs.{Settles, Falls, parted, apart, asked, first_alone, second_alone, by_heads};
+
 use crate::rule::Rule;
 use memory::reading::read_vertex;
 use memory::recall::Question;
@@ -27,7 +26,7 @@ pub struct Split<S> {
 
 // What the recall table is asked of a pair.
 pub fn question(rule: Rule, pair: Pair) -> Question
-    ensures { λ r. ⌜ r ≡ asked (number-of rule) pair ⌝ }
+    ensures { result ≡ asked (number_of rule) pair }
 {
     let Pair { first, second } = pair;
     Question {
@@ -38,7 +37,7 @@ pub fn question(rule: Rule, pair: Pair) -> Question
 }
 
 fn kept(keep: bool, n: u32) -> u32
-    ensures { λ r. ⌜ r ≡ cond keep n 0 ⌝ }
+    ensures { result ≡ (if keep then n else 0) }
 {
     if keep { n } else { 0 }
 }
@@ -46,7 +45,7 @@ fn kept(keep: bool, n: u32) -> u32
 // The answer that needs no walk: list 0 on either side, equal lists, and the rules for nothing, the first and the
 // second list.
 pub fn shortcut(rule: Rule, pair: Pair) -> Option<u32>
-    ensures { λ r. ⌜ Settles (number-of rule) pair r ⌝ }
+    ensures { Settles (number_of rule) pair result }
 {
     if pair.first == 0 {
         return Some(kept(rule.second, pair.second));
@@ -67,7 +66,7 @@ pub fn shortcut(rule: Rule, pair: Pair) -> Option<u32>
 
 // The head is the first list's alone.
 fn first_alone<S: Symbol>(pair: Pair, vertex: (S, u32, u32)) -> Split<S>
-    ensures { λ r. ⌜ r ≡ first-alone pair vertex ⌝ }
+    ensures { result ≡ first_alone pair vertex }
 {
     let (label, zero, one) = vertex;
     Split {
@@ -85,7 +84,7 @@ fn first_alone<S: Symbol>(pair: Pair, vertex: (S, u32, u32)) -> Split<S>
 
 // The head is the second list's alone.
 fn second_alone<S: Symbol>(pair: Pair, vertex: (S, u32, u32)) -> Split<S>
-    ensures { λ r. ⌜ r ≡ second-alone pair vertex ⌝ }
+    ensures { result ≡ second_alone pair vertex }
 {
     let (label, zero, one) = vertex;
     Split {
@@ -103,7 +102,7 @@ fn second_alone<S: Symbol>(pair: Pair, vertex: (S, u32, u32)) -> Split<S>
 
 // The head that comes first, or is both lists'.
 fn by_heads<S: Symbol>(pair: Pair, first: (S, u32, u32), second: (S, u32, u32)) -> Split<S>
-    ensures { λ r. ⌜ r ≡ by-heads (S·Symbol .before) pair first second ⌝ }
+    ensures { result ≡ by_heads S.Symbol.before pair first second }
 {
     if first.0.before(second.0) {
         return first_alone(pair, first);
@@ -130,7 +129,7 @@ fn part_by<S: Symbol>(
     first: Option<(S, u32, u32)>,
     second: Option<(S, u32, u32)>,
 ) -> Option<Split<S>>
-    ensures { λ r. ⌜ r ≡ parted (S·Symbol .before) pair first second ⌝ }
+    ensures { result ≡ parted S.Symbol.before pair first second }
 {
     match (first, second) {
         (None, None) => None,
@@ -142,8 +141,8 @@ fn part_by<S: Symbol>(
 
 // Takes a pair apart. The two new pairs have lower numbers, whatever lies on the shelf.
 pub fn take_apart<S: Symbol, B: Shelf<S>>(shelf: &B, pair: Pair) -> Option<Split<S>>
-    ensures below { λ r. ⌜ Falls pair r ⌝ }
-    ensures value { λ r. ⌜ (Formed (S·Symbol .before) (B·Shelf .vertices (now (shelf .entry))) → r ≡ apart (S·Symbol .before) (B·Shelf .vertices (now (shelf .entry))) pair) ⌝ }
+    ensures below { Falls pair result }
+    ensures value { Formed S.Symbol.before (B.Shelf.vertices shelf.now) → result ≡ apart S.Symbol.before (B.Shelf.vertices shelf.now) pair }
 {
     let first = read_vertex(shelf, pair.first);
     let second = read_vertex(shelf, pair.second);

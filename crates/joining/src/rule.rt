@@ -1,8 +1,6 @@
 // The rule of a join: which codes stay.
-ghost use Prim.Native.Nat.{_<_, _≤_};
-ghost use mathlib.Core.Path.{_≡_};
-ghost use Rattle·std.specs.Options.{Cases as BySome};
-ghost use Rattle·joining·specs.Rules.{number-of};
+ghost use Rattle.std.specs.Prelude.{◌≡◌, ◌<◌, ◌≤◌, MatchOption};
+ghost use Rattle.joining.specs.Rules.{number_of};
 
 // Whether codes stay that are only in the first list, only in the second, in both.
 #[derive(Clone, Copy)]
@@ -15,7 +13,7 @@ pub struct Rule {
 impl Rule {
     // The rule with a number from 0 to 7, a sum: 1 for the first, 2 for the second, 4 for both.
     pub fn from_number(n: u32) -> Option<Rule>
-        ensures { λ r. ⌜ BySome r (7 < n) (λ rule. (n ≤ 7) × (number-of rule ≡ n)) ⌝ }
+        ensures { MatchOption result (7 < n) (λ rule. (n ≤ 7) × (number_of rule ≡ n)) }
     {
         if n > 7 {
             return None;
@@ -28,7 +26,7 @@ impl Rule {
     }
 
     pub fn number(self) -> u8
-        ensures { λ r. ⌜ r ≡ number-of self ⌝ }
+        ensures { result ≡ number_of self }
     {
         u8::from(self.first) + 2 * u8::from(self.second) + 4 * u8::from(self.both)
     }

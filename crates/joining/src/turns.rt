@@ -2,22 +2,15 @@
 //
 // A turn asks the recall table once at most and reads two vertices. It reads links through `read_vertex`, so pairs only
 // get lower, and the walk ends and stays within its frames on any memory.
-ghost use Prim.Native.Nat.{_+_, _<_};
-ghost use mathlib.Core.Path.{_≡_};
-ghost use Rattle·joining·specs.Rules.{number-of};
-ghost use Rattle·joining·specs.Walks.{meeting, answered, Fits, cost, Goes, Turns, Comes-down, Coupled, Unended, Ended};
-use crate::frames::Frame;
-use crate::frames::Stage;
-use crate::frames::read_frame;
-use crate::frames::write_frame;
-use crate::pairs::Pair;
-use crate::pairs::question;
-use crate::pairs::shortcut;
-use crate::pairs::take_apart;
+ghost use Rattle.std.specs.Prelude.{◌≡◌, ◌+◌, ◌<◌};
+ghost use Rattle.joining.specs.Rules.{number_of};
+ghost use Rattle.joining.specs.Walks.{meeting, answered, Fits, cost, Goes, Turns, ComesDown, Coupled, Unended, Ended};
+
+use crate::frames::{Frame, Stage, read_frame, write_frame};
+use crate::pairs::{Pair, question, shortcut, take_apart};
 use crate::rule::Rule;
 use memory::recall::RecallTable;
-use memory::shelf::Full;
-use memory::shelf::Shelf;
+use memory::shelf::{Full, Shelf};
 use memory::work::Place;
 use symbols::Symbol;
 
@@ -44,10 +37,10 @@ fn meet<S: Symbol, B: Shelf<S>, R: RecallTable>(
     height: usize,
     pair: Pair,
 ) -> State
-    requires { ⌜ Fits (now work) (meeting height pair) ⌝ }
-    ensures fits { λ r. ⌜ Fits (now (work .exit)) r ⌝ }
-    ensures falls { λ r. ⌜ cost (now (work .exit)) r < cost (now (work .entry)) (meeting height pair) ⌝ }
-    ensures goes { λ r. ⌜ Goes (S·Symbol .before) (number-of rule) (B·Shelf .vertices (now (shelf .entry))) (R·RecallTable .table (now (recall .entry))) (now (work .entry)) (meeting height pair) (now (work .exit)) r ⌝ }
+    requires { Fits work.old (meeting height pair) }
+    ensures fits { Fits work.new result }
+    ensures falls { cost work.new result < cost work.old (meeting height pair) }
+    ensures goes { Goes S.Symbol.before (number_of rule) (B.Shelf.vertices shelf.now) (R.RecallTable.table recall.now) work.old (meeting height pair) work.new result }
 {
     if let Some(n) = shortcut(rule, pair) {
         return State {
@@ -84,9 +77,9 @@ fn meet<S: Symbol, B: Shelf<S>, R: RecallTable>(
 
 // The number of the vertex with these links, found or appended; the zero link's where the one link is 0.
 fn couple<S: Symbol, B: Shelf<S>>(shelf: &mut B, label: S, zero: u32, one: u32) -> Result<u32, Full>
-    ensures answer { λ r. ⌜ (B·Shelf .ready (now (shelf .entry)) → Coupled (B·Shelf .capacity (now (shelf .entry))) (B·Shelf .vertices (now (shelf .entry))) label zero one r (B·Shelf .vertices (now (shelf .exit)))) ⌝ }
-    ensures ready { λ _. ⌜ (B·Shelf .ready (now (shelf .entry)) → B·Shelf .ready (now (shelf .exit))) ⌝ }
-    ensures size { λ _. ⌜ B·Shelf .capacity (now (shelf .exit)) ≡ B·Shelf .capacity (now (shelf .entry)) ⌝ }
+    ensures answer { B.Shelf.ready shelf.old → Coupled (B.Shelf.capacity shelf.old) (B.Shelf.vertices shelf.old) label zero one result (B.Shelf.vertices shelf.new) }
+    ensures ready { B.Shelf.ready shelf.old → B.Shelf.ready shelf.new }
+    ensures size { B.Shelf.capacity shelf.new ≡ B.Shelf.capacity shelf.old }
 {
     if one == 0 {
         return Ok(zero);
@@ -103,13 +96,13 @@ fn answer<S: Symbol, B: Shelf<S>, R: RecallTable>(
     height: usize,
     n: u32,
 ) -> Result<State, Full>
-    requires fits { ⌜ Fits (now work) (answered height n) ⌝ }
-    requires some { ⌜ 0 < height ⌝ }
-    ensures falls { λ r. ⌜ Comes-down (now (work .entry)) (answered height n) (now (work .exit)) r ⌝ }
-    ensures turns { λ r. ⌜ (B·Shelf .ready (now (shelf .entry)) → Turns (S·Symbol .before) (number-of rule) (B·Shelf .capacity (now (shelf .entry))) (B·Shelf .vertices (now (shelf .entry))) (R·RecallTable .table (now (recall .entry))) (now (work .entry)) (answered height n)
-        (B·Shelf .vertices (now (shelf .exit))) (R·RecallTable .table (now (recall .exit))) (now (work .exit)) r) ⌝ }
-    ensures ready { λ _. ⌜ (B·Shelf .ready (now (shelf .entry)) → B·Shelf .ready (now (shelf .exit))) ⌝ }
-    ensures size { λ _. ⌜ B·Shelf .capacity (now (shelf .exit)) ≡ B·Shelf .capacity (now (shelf .entry)) ⌝ }
+    requires fits { Fits work.old (answered height n) }
+    requires some { 0 < height }
+    ensures falls { ComesDown work.old (answered height n) work.new result }
+    ensures turns { B.Shelf.ready shelf.old → Turns S.Symbol.before (number_of rule) (B.Shelf.capacity shelf.old) (B.Shelf.vertices shelf.old) (R.RecallTable.table recall.old) work.old (answered height n)
+        (B.Shelf.vertices shelf.new) (R.RecallTable.table recall.new) work.new result }
+    ensures ready { B.Shelf.ready shelf.old → B.Shelf.ready shelf.new }
+    ensures size { B.Shelf.capacity shelf.new ≡ B.Shelf.capacity shelf.old }
 {
     let top = height - 1;
     let frame = read_frame(work, top);
@@ -148,7 +141,7 @@ fn answer<S: Symbol, B: Shelf<S>, R: RecallTable>(
 
 // The walk's number, once no frame waits for it.
 pub(crate) fn ended(state: State) -> Option<u32>
-    ensures { λ r. ⌜ Ended state r ⌝ }
+    ensures { Ended state result }
 {
     match state.turn {
         Turn::Meet(_) => None,
@@ -169,13 +162,13 @@ pub(crate) fn advance<S: Symbol, B: Shelf<S>, R: RecallTable>(
     work: &mut [Place],
     state: State,
 ) -> Result<State, Full>
-    requires fits { ⌜ Fits (now work) state ⌝ }
-    requires unended { ⌜ Unended (state .height) (state .turn) ⌝ }
-    ensures falls { λ r. ⌜ Comes-down (now (work .entry)) state (now (work .exit)) r ⌝ }
-    ensures turns { λ r. ⌜ (B·Shelf .ready (now (shelf .entry)) → Turns (S·Symbol .before) (number-of rule) (B·Shelf .capacity (now (shelf .entry))) (B·Shelf .vertices (now (shelf .entry))) (R·RecallTable .table (now (recall .entry))) (now (work .entry)) state
-        (B·Shelf .vertices (now (shelf .exit))) (R·RecallTable .table (now (recall .exit))) (now (work .exit)) r) ⌝ }
-    ensures ready { λ _. ⌜ (B·Shelf .ready (now (shelf .entry)) → B·Shelf .ready (now (shelf .exit))) ⌝ }
-    ensures size { λ _. ⌜ B·Shelf .capacity (now (shelf .exit)) ≡ B·Shelf .capacity (now (shelf .entry)) ⌝ }
+    requires fits { Fits work.old state }
+    requires unended { Unended state.height state.turn }
+    ensures falls { ComesDown work.old state work.new result }
+    ensures turns { B.Shelf.ready shelf.old → Turns S.Symbol.before (number_of rule) (B.Shelf.capacity shelf.old) (B.Shelf.vertices shelf.old) (R.RecallTable.table recall.old) work.old state
+        (B.Shelf.vertices shelf.new) (R.RecallTable.table recall.new) work.new result }
+    ensures ready { B.Shelf.ready shelf.old → B.Shelf.ready shelf.new }
+    ensures size { B.Shelf.capacity shelf.new ≡ B.Shelf.capacity shelf.old }
 {
     match state.turn {
         Turn::Meet(pair) => Ok(meet(shelf, recall, rule, work, state.height, pair)),

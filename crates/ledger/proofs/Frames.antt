@@ -1,2 +1,2 @@
 -- The former name of `Under`.
-pub use Rattle·ledger·proofs.Under.{under-has}
+pub use Rattle.ledger.proofs.Under.{under_has}

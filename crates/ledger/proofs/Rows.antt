@@ -1,19 +1,13 @@
 -- Rows of lists: where a list stands, what laying down adds, and that it keeps a ledger a ledger.
-use mathlib.Core.Path.{_≡_, refl, sym, ap, subst, _∙_}
-use mathlib.Core.Bool.{Bool, true, false, cond}
-use mathlib.Core.List.{List, [], _∷_, _++_, append-nil, append-assoc}
-use mathlib.Core.Logic.{_⊎_, inl, inr}
-use Prim.Native.Nat.{ℕ, zero, suc, _+_, _≤_, _<_}
-use native.Mathlib.Omega.{arith}
-use native.Mathlib.Decide.{ℕ-discrete}
-use lib.ListN.{length, getD}
-use Rattle·symbols.specs.Order.{Order}
-pub use Rattle·symbols.proofs.Orders.{both-ways}
-use Rattle·ledger·specs.Lists.{Part, Codes, none, blank, begun, Proper, same}
-use Rattle·ledger·specs.Ledger.{listed, position, number, lay, list-in}
-use Rattle·ledger·proofs.Reading.{true-false}
-use Rattle·ledger·proofs.Sets.{same-equal, same-self}
-use Rattle·ledger·proofs.Ends.{getD-front, getD-last, length-snoc}
+use Rattle.std.proofs.Common.{◌≡◌, ℕ, zero, suc, ◌+◌, ◌<◌, ◌≤◌, Bool, true, false, cond, ◌⊎◌, List, [], ◌∷◌, ◌++◌, length, get_or, sym, refl, ap, ◌∙◌, subst, inl, inr, append_assoc, append-nil, arith}
+use native.Mathlib.Decide.{ℕ_discrete}
+use Rattle.symbols.specs.Order.{Order}
+pub use Rattle.symbols.proofs.Orders.{both_ways}
+use Rattle.ledger.specs.Lists.{Part, Codes, none, blank, begun, Proper, same}
+use Rattle.ledger.specs.Ledger.{listed, position, number, lay, list_in}
+use Rattle.ledger.proofs.Reading.{true_false}
+use Rattle.ledger.proofs.Sets.{same_equal, same_self}
+use Rattle.ledger.proofs.Ends.{get_or_front, get_or_last, length_snoc}
 
 abbrev size : {S : Type 0} → Codes S → ℕ
 size none = 0
@@ -21,12 +15,12 @@ size blank = 0
 size (begun a z o) = suc (size z + size o)
 
 -- a part is no larger
-part-small : {S : Type 0} (t u : Codes S) → Part t u → size u ≤ size t
-part-small {S} none u e = let h : size {S = S} none ≡ size u = ap size e in omega arith
-part-small {S} blank u e = let h : size {S = S} blank ≡ size u = ap size e in omega arith
-part-small (begun a z o) u (inl e) = let h : size (begun a z o) ≡ size u = ap size e in omega arith
-part-small (begun a z o) u (inr (inl p)) = let h = part-small z u p in omega arith
-part-small (begun a z o) u (inr (inr p)) = let h = part-small o u p in omega arith
+part_small : {S : Type 0} (t u : Codes S) → Part t u → size u ≤ size t
+part_small {S} none u e = let h : size {S = S} none ≡ size u = ap size e in omega arith
+part_small {S} blank u e = let h : size {S = S} blank ≡ size u = ap size e in omega arith
+part_small (begun a z o) u (inl e) = let h : size (begun a z o) ≡ size u = ap size e in omega arith
+part_small (begun a z o) u (inr (inl p)) = let h = part_small z u p in omega arith
+part_small (begun a z o) u (inr (inr p)) = let h = part_small o u p in omega arith
 
 -- the list is a terminal, or has a number in the row
 abbrev pub Known : {S : Type 0} → (S → S → Bool) → List (Codes S) → Codes S → Type 0
@@ -36,242 +30,242 @@ Known before row (begun a z o) = listed before row (begun a z o) ≡ true
 
 -- different proper lists, each after its outer and its inner list
 pub data Ledger {S : Type 0} (before : S → S → Bool) : List (Codes S) → Type 0 where
-  empty-row : {row : List (Codes S)} → row ≡ [] → Ledger before row
-  one-more : {row : List (Codes S)} (front : List (Codes S)) (a : S) (z o : Codes S) → row ≡ front ++ begun a z o ∷ [] → Ledger before front →
+  empty_row : {row : List (Codes S)} → row ≡ [] → Ledger before row
+  one_more : {row : List (Codes S)} (front : List (Codes S)) (a : S) (z o : Codes S) → row ≡ front ++ begun a z o ∷ [] → Ledger before front →
       Known before front z → Known before front o → Proper before (begun a z o) → listed before front (begun a z o) ≡ false → Ledger before row
 
 module _ {S : Type 0} (before : S → S → Bool) (order : Order before) where
-  pub listed-front : (row more : List (Codes S)) (t : Codes S) → listed before row t ≡ true → listed before (row ++ more) t ≡ true
-  listed-front [] more t e = absurd (true-false e refl)
-  listed-front (u ∷ row) more t e =
+  pub listed_front : (row more : List (Codes S)) (t : Codes S) → listed before row t ≡ true → listed before (row ++ more) t ≡ true
+  listed_front [] more t e = absurd (true_false e refl)
+  listed_front (u ∷ row) more t e =
       elim (same before u t) as (λ b. cond b true (listed before row t) ≡ true → cond b true (listed before (row ++ more) t) ≡ true) [
         | true ↦ λ f. refl
-        | false ↦ λ f. listed-front row more t f
+        | false ↦ λ f. listed_front row more t f
       ] e
 
-  pub listed-last : (row : List (Codes S)) (t : Codes S) → listed before (row ++ t ∷ []) t ≡ true
-  listed-last [] t = rw (same-self before order t)
-  listed-last (u ∷ row) t =
-      elim (same before u t) as (λ b. cond b true (listed before (row ++ t ∷ []) t) ≡ true) [ true ↦ refl | false ↦ listed-last row t ]
+  pub listed_last : (row : List (Codes S)) (t : Codes S) → listed before (row ++ t ∷ []) t ≡ true
+  listed_last [] t = rw (same_self before order t)
+  listed_last (u ∷ row) t =
+      elim (same before u t) as (λ b. cond b true (listed before (row ++ t ∷ []) t) ≡ true) [ true ↦ refl | false ↦ listed_last row t ]
 
-  pub listed-cases : (row : List (Codes S)) (x t : Codes S) → listed before (row ++ x ∷ []) t ≡ true → (listed before row t ≡ true) ⊎ (x ≡ t)
-  listed-cases [] x t e = by (both-ways (same before x t))
+  pub listed_cases : (row : List (Codes S)) (x t : Codes S) → listed before (row ++ x ∷ []) t ≡ true → (listed before row t ≡ true) ⊎ (x ≡ t)
+  listed_cases [] x t e = by (both_ways (same before x t))
     where
       by : (same before x t ≡ true) ⊎ (same before x t ≡ false) → (false ≡ true) ⊎ (x ≡ t)
-      by (inl p) = inr (same-equal before order x t p)
-      by (inr p) = absurd (true-false e (rw p))
-  listed-cases (u ∷ row) x t e =
+      by (inl p) = inr (same_equal before order x t p)
+      by (inr p) = absurd (true_false e (rw p))
+  listed_cases (u ∷ row) x t e =
       elim (same before u t) as (λ b. cond b true (listed before (row ++ x ∷ []) t) ≡ true → (cond b true (listed before row t) ≡ true) ⊎ (x ≡ t)) [
         | true ↦ λ f. inl refl
-        | false ↦ λ f. listed-cases row x t f
+        | false ↦ λ f. listed_cases row x t f
       ] e
 
-  pub position-front : (row more : List (Codes S)) (t : Codes S) → listed before row t ≡ true → position before (row ++ more) t ≡ position before row t
-  position-front [] more t e = absurd (true-false e refl)
-  position-front (u ∷ row) more t e =
+  pub position_front : (row more : List (Codes S)) (t : Codes S) → listed before row t ≡ true → position before (row ++ more) t ≡ position before row t
+  position_front [] more t e = absurd (true_false e refl)
+  position_front (u ∷ row) more t e =
       elim (same before u t) as (λ b. cond b true (listed before row t) ≡ true → cond b 0 (suc (position before (row ++ more) t)) ≡ cond b 0 (suc (position before row t))) [
         | true ↦ λ f. refl
-        | false ↦ λ f. ap suc (position-front row more t f)
+        | false ↦ λ f. ap suc (position_front row more t f)
       ] e
 
-  pub position-last : (row : List (Codes S)) (t : Codes S) → listed before row t ≡ false → position before (row ++ t ∷ []) t ≡ length row
-  position-last [] t e = rw (same-self before order t)
-  position-last (u ∷ row) t e =
+  pub position_last : (row : List (Codes S)) (t : Codes S) → listed before row t ≡ false → position before (row ++ t ∷ []) t ≡ length row
+  position_last [] t e = rw (same_self before order t)
+  position_last (u ∷ row) t e =
       elim (same before u t) as (λ b. cond b true (listed before row t) ≡ false → cond b 0 (suc (position before (row ++ t ∷ []) t)) ≡ suc (length row)) [
-        | true ↦ λ f. absurd (true-false refl f)
-        | false ↦ λ f. ap suc (position-last row t f)
+        | true ↦ λ f. absurd (true_false refl f)
+        | false ↦ λ f. ap suc (position_last row t f)
       ] e
 
-  pub position-below : (row : List (Codes S)) (t : Codes S) → listed before row t ≡ true → position before row t < length row
-  position-below [] t e = absurd (true-false e refl)
-  position-below (u ∷ row) t e =
+  pub position_below : (row : List (Codes S)) (t : Codes S) → listed before row t ≡ true → position before row t < length row
+  position_below [] t e = absurd (true_false e refl)
+  position_below (u ∷ row) t e =
       elim (same before u t) as (λ b. cond b true (listed before row t) ≡ true → cond b 0 (suc (position before row t)) < suc (length row)) [
         | true ↦ λ f. omega arith
-        | false ↦ λ f. let h = position-below row t f in omega arith
+        | false ↦ λ f. let h = position_below row t f in omega arith
       ] e
 
-  pub getD-position : (row : List (Codes S)) (t d : Codes S) → listed before row t ≡ true → getD row (position before row t) d ≡ t
-  getD-position [] t d e = absurd (true-false e refl)
-  getD-position (u ∷ row) t d e = by (both-ways (same before u t)) (getD-position row t d)
+  pub get_or_position : (row : List (Codes S)) (t d : Codes S) → listed before row t ≡ true → get_or row (position before row t) d ≡ t
+  get_or_position [] t d e = absurd (true_false e refl)
+  get_or_position (u ∷ row) t d e = by (both_ways (same before u t)) (get_or_position row t d)
     where
-      by : (same before u t ≡ true) ⊎ (same before u t ≡ false) → (listed before row t ≡ true → getD row (position before row t) d ≡ t) → getD (u ∷ row) (position before (u ∷ row) t) d ≡ t
-      by (inl p) below = rw p (same-equal before order u t p)
+      by : (same before u t ≡ true) ⊎ (same before u t ≡ false) → (listed before row t ≡ true → get_or row (position before row t) d ≡ t) → get_or (u ∷ row) (position before (u ∷ row) t) d ≡ t
+      by (inl p) below = rw p (same_equal before order u t p)
       by (inr p) below = rw p (below (rw p at e))
 
-  pub listed-getD : (row : List (Codes S)) (k : ℕ) (d : Codes S) → k < length row → listed before row (getD row k d) ≡ true
-  listed-getD [] k d h = absurd (omega arith)
-  listed-getD (u ∷ row) zero d h = rw (same-self before order u)
-  listed-getD (u ∷ row) (suc k) d h =
-      elim (same before u (getD row k d)) as (λ b. cond b true (listed before row (getD row k d)) ≡ true) [ true ↦ refl | false ↦ listed-getD row k d (omega arith) ]
+  pub listed_get_or : (row : List (Codes S)) (k : ℕ) (d : Codes S) → k < length row → listed before row (get_or row k d) ≡ true
+  listed_get_or [] k d h = absurd (omega arith)
+  listed_get_or (u ∷ row) zero d h = rw (same_self before order u)
+  listed_get_or (u ∷ row) (suc k) d h =
+      elim (same before u (get_or row k d)) as (λ b. cond b true (listed before row (get_or row k d)) ≡ true) [ true ↦ refl | false ↦ listed_get_or row k d (omega arith) ]
 
   -- what is known
-  pub known-held : (row : List (Codes S)) (t : Codes S) → listed before row t ≡ true → Known before row t
-  known-held row none e = tt
-  known-held row blank e = tt
-  known-held row (begun a z o) e = e
+  pub known_held : (row : List (Codes S)) (t : Codes S) → listed before row t ≡ true → Known before row t
+  known_held row none e = tt
+  known_held row blank e = tt
+  known_held row (begun a z o) e = e
 
-  pub known-front : (row more : List (Codes S)) (t : Codes S) → Known before row t → Known before (row ++ more) t
-  known-front row more none k = tt
-  known-front row more blank k = tt
-  known-front row more (begun a z o) k = listed-front row more (begun a z o) k
+  pub known_front : (row more : List (Codes S)) (t : Codes S) → Known before row t → Known before (row ++ more) t
+  known_front row more none k = tt
+  known_front row more blank k = tt
+  known_front row more (begun a z o) k = listed_front row more (begun a z o) k
 
-  pub number-front : (row more : List (Codes S)) (t : Codes S) → Known before row t → number before (row ++ more) t ≡ number before row t
-  number-front row more none k = refl
-  number-front row more blank k = refl
-  number-front row more (begun a z o) k = ap (λ n. suc (suc n)) (position-front row more (begun a z o) k)
+  pub number_front : (row more : List (Codes S)) (t : Codes S) → Known before row t → number before (row ++ more) t ≡ number before row t
+  number_front row more none k = refl
+  number_front row more blank k = refl
+  number_front row more (begun a z o) k = ap (λ n. suc (suc n)) (position_front row more (begun a z o) k)
 
-  pub number-good : (row : List (Codes S)) (t : Codes S) → Known before row t → number before row t ≤ length row + 1
-  number-good row none k = omega arith
-  number-good row blank k = omega arith
-  number-good row (begun a z o) k = let h = position-below row (begun a z o) k in omega arith
+  pub number_good : (row : List (Codes S)) (t : Codes S) → Known before row t → number before row t ≤ length row + 1
+  number_good row none k = omega arith
+  number_good row blank k = omega arith
+  number_good row (begun a z o) k = let h = position_below row (begun a z o) k in omega arith
 
-  pub list-number : (row : List (Codes S)) (t : Codes S) → Known before row t → list-in row (number before row t) ≡ t
-  list-number row none k = refl
-  list-number row blank k = refl
-  list-number row (begun a z o) k = getD-position row (begun a z o) none k
+  pub list_number : (row : List (Codes S)) (t : Codes S) → Known before row t → list_in row (number before row t) ≡ t
+  list_number row none k = refl
+  list_number row blank k = refl
+  list_number row (begun a z o) k = get_or_position row (begun a z o) none k
 
-  pub list-front : (row more : List (Codes S)) (n : ℕ) → n ≤ length row + 1 → list-in (row ++ more) n ≡ list-in row n
-  list-front row more zero h = refl
-  list-front row more (suc zero) h = refl
-  list-front row more (suc (suc k)) h = getD-front row more k none (omega arith)
+  pub list_front : (row more : List (Codes S)) (n : ℕ) → n ≤ length row + 1 → list_in (row ++ more) n ≡ list_in row n
+  list_front row more zero h = refl
+  list_front row more (suc zero) h = refl
+  list_front row more (suc (suc k)) h = get_or_front row more k none (omega arith)
 
-  pub known-list : (row : List (Codes S)) (n : ℕ) → n ≤ length row + 1 → Known before row (list-in row n)
-  known-list row zero h = tt
-  known-list row (suc zero) h = tt
-  known-list row (suc (suc k)) h = known-held row (getD row k none) (listed-getD row k none (omega arith))
+  pub known_list : (row : List (Codes S)) (n : ℕ) → n ≤ length row + 1 → Known before row (list_in row n)
+  known_list row zero h = tt
+  known_list row (suc zero) h = tt
+  known_list row (suc (suc k)) h = known_held row (get_or row k none) (listed_get_or row k none (omega arith))
 
   -- in a ledger
-  pub held-proper : {row : List (Codes S)} → Ledger before row → (t : Codes S) → listed before row t ≡ true → Proper before t
-  held-proper (empty-row e) t h = absurd (true-false h (rw e))
-  held-proper (one-more front a z o e L kz ko p new) t h = by (listed-cases front (begun a z o) t (rw e at h)) (held-proper L t)
+  pub held_proper : {row : List (Codes S)} → Ledger before row → (t : Codes S) → listed before row t ≡ true → Proper before t
+  held_proper (empty_row e) t h = absurd (true_false h (rw e))
+  held_proper (one_more front a z o e L kz ko p new) t h = by (listed_cases front (begun a z o) t (rw e at h)) (held_proper L t)
     where
       by : (listed before front t ≡ true) ⊎ (begun a z o ≡ t) → (listed before front t ≡ true → Proper before t) → Proper before t
       by (inl k) below = below k
       by (inr k) below = subst (Proper before) k p
 
-  pub known-proper : {row : List (Codes S)} → Ledger before row → (t : Codes S) → Known before row t → Proper before t
-  known-proper L none k = tt
-  known-proper L blank k = tt
-  known-proper L (begun a z o) k = held-proper L (begun a z o) k
+  pub known_proper : {row : List (Codes S)} → Ledger before row → (t : Codes S) → Known before row t → Proper before t
+  known_proper L none k = tt
+  known_proper L blank k = tt
+  known_proper L (begun a z o) k = held_proper L (begun a z o) k
 
   -- lists stand where their numbers say
-  pub position-getD : {row : List (Codes S)} → Ledger before row → (k : ℕ) → k < length row → number before row (getD row k none) ≡ suc (suc k)
-  position-getD {row} (empty-row e) k h = let z : length row ≡ 0 = ap length e in absurd (omega arith)
-  position-getD {row} (one-more front a z o e L kz ko p new) k h = rw e (by (ℕ-discrete k (length front)) (position-getD L k))
+  pub position_get_or : {row : List (Codes S)} → Ledger before row → (k : ℕ) → k < length row → number before row (get_or row k none) ≡ suc (suc k)
+  position_get_or {row} (empty_row e) k h = let z : length row ≡ 0 = ap length e in absurd (omega arith)
+  position_get_or {row} (one_more front a z o e L kz ko p new) k h = rw e (by (ℕ_discrete k (length front)) (position_get_or L k))
     where
       x : Codes S
       x = begun a z o
 
       more : length row ≡ suc (length front)
-      more = ap length e ∙ length-snoc front (begun a z o)
+      more = ap length e ∙ length_snoc front (begun a z o)
 
-      by : Dec (k ≡ length front) → (k < length front → number before front (getD front k none) ≡ suc (suc k)) → number before (front ++ begun a z o ∷ []) (getD (front ++ begun a z o ∷ []) k none) ≡ suc (suc k)
-      by (yes f) below = rw (f, getD-last front (begun a z o) none) (ap (λ n. suc (suc n)) (position-last front (begun a z o) new))
+      by : Dec (k ≡ length front) → (k < length front → number before front (get_or front k none) ≡ suc (suc k)) → number before (front ++ begun a z o ∷ []) (get_or (front ++ begun a z o ∷ []) k none) ≡ suc (suc k)
+      by (yes f) below = rw (f, get_or_last front (begun a z o) none) (ap (λ n. suc (suc n)) (position_last front (begun a z o) new))
       by (no f) below =
           let small : k < length front = omega (arith, more) in
-          rw (getD-front front (begun a z o ∷ []) k none small)
-          (number-front front (begun a z o ∷ []) (getD front k none) (known-held front (getD front k none) (listed-getD front k none small)) ∙ below small)
+          rw (get_or_front front (begun a z o ∷ []) k none small)
+          (number_front front (begun a z o ∷ []) (get_or front k none) (known_held front (get_or front k none) (listed_get_or front k none small)) ∙ below small)
 
-  pub number-list : {row : List (Codes S)} → Ledger before row → (n : ℕ) → n ≤ length row + 1 → number before row (list-in row n) ≡ n
-  number-list L zero h = refl
-  number-list L (suc zero) h = refl
-  number-list L (suc (suc k)) h = position-getD L k (omega arith)
+  pub number_list : {row : List (Codes S)} → Ledger before row → (n : ℕ) → n ≤ length row + 1 → number before row (list_in row n) ≡ n
+  number_list L zero h = refl
+  number_list L (suc zero) h = refl
+  number_list L (suc (suc k)) h = position_get_or L k (omega arith)
 
   -- laying down
-  pub lay-held : (row : List (Codes S)) (a : S) (z o : Codes S) → listed before row (begun a z o) ≡ true → lay before row (begun a z o) ≡ row
-  lay-held row a z o e = rw e
+  pub lay_held : (row : List (Codes S)) (a : S) (z o : Codes S) → listed before row (begun a z o) ≡ true → lay before row (begun a z o) ≡ row
+  lay_held row a z o e = rw e
 
-  pub lay-new : (row : List (Codes S)) (a : S) (z o : Codes S) → listed before row (begun a z o) ≡ false →
+  pub lay_new : (row : List (Codes S)) (a : S) (z o : Codes S) → listed before row (begun a z o) ≡ false →
       lay before row (begun a z o) ≡ lay before (lay before row z) o ++ begun a z o ∷ []
-  lay-new row a z o e = rw e
+  lay_new row a z o e = rw e
 
-  pub lay-known : (row : List (Codes S)) (t : Codes S) → Known before row t → lay before row t ≡ row
-  lay-known row none k = refl
-  lay-known row blank k = refl
-  lay-known row (begun a z o) k = lay-held row a z o k
+  pub lay_known : (row : List (Codes S)) (t : Codes S) → Known before row t → lay before row t ≡ row
+  lay_known row none k = refl
+  lay_known row blank k = refl
+  lay_known row (begun a z o) k = lay_held row a z o k
 
-  pub lay-adds : (row : List (Codes S)) (t : Codes S) → (more : List (Codes S)) × (lay before row t ≡ row ++ more)
-  lay-adds row none = ([], sym (append-nil row))
-  lay-adds row blank = ([], sym (append-nil row))
-  lay-adds row (begun a z o) = by (both-ways (listed before row (begun a z o))) (lay-adds row z) (lay-adds (lay before row z) o)
+  pub lay_adds : (row : List (Codes S)) (t : Codes S) → (more : List (Codes S)) × (lay before row t ≡ row ++ more)
+  lay_adds row none = ([], sym (append-nil row))
+  lay_adds row blank = ([], sym (append-nil row))
+  lay_adds row (begun a z o) = by (both_ways (listed before row (begun a z o))) (lay_adds row z) (lay_adds (lay before row z) o)
     where
       by : (listed before row (begun a z o) ≡ true) ⊎ (listed before row (begun a z o) ≡ false) →
           (more : List (Codes S)) × (lay before row z ≡ row ++ more) →
           (more : List (Codes S)) × (lay before (lay before row z) o ≡ lay before row z ++ more) →
           (more : List (Codes S)) × (lay before row (begun a z o) ≡ row ++ more)
-      by (inl e) outer inner = ([], lay-held row a z o e ∙ sym (append-nil row))
+      by (inl e) outer inner = ([], lay_held row a z o e ∙ sym (append-nil row))
       by (inr e) outer inner = (
-        outer .0 ++ (inner .0 ++ begun a z o ∷ []),
-        lay-new row a z o e ∙ ap (λ r. r ++ begun a z o ∷ []) (inner .1 ∙ ap (λ r. r ++ inner .0) (outer .1)) ∙ simp append-assoc,
+        outer.0 ++ (inner.0 ++ begun a z o ∷ []),
+        lay_new row a z o e ∙ ap (λ r. r ++ begun a z o ∷ []) (inner.1 ∙ ap (λ r. r ++ inner.0) outer.1) ∙ simp append_assoc,
       )
 
-  pub lay-knows : (row : List (Codes S)) (t : Codes S) → Known before (lay before row t) t
-  lay-knows row none = tt
-  lay-knows row blank = tt
-  lay-knows row (begun a z o) = by (both-ways (listed before row (begun a z o)))
+  pub lay_knows : (row : List (Codes S)) (t : Codes S) → Known before (lay before row t) t
+  lay_knows row none = tt
+  lay_knows row blank = tt
+  lay_knows row (begun a z o) = by (both_ways (listed before row (begun a z o)))
     where
       by : (listed before row (begun a z o) ≡ true) ⊎ (listed before row (begun a z o) ≡ false) → listed before (lay before row (begun a z o)) (begun a z o) ≡ true
-      by (inl e) = rw (lay-held row a z o e) e
-      by (inr e) = rw (lay-new row a z o e) (listed-last (lay before (lay before row z) o) (begun a z o))
+      by (inl e) = rw (lay_held row a z o e) e
+      by (inr e) = rw (lay_new row a z o e) (listed_last (lay before (lay before row z) o) (begun a z o))
 
-  pub known-laid : (row : List (Codes S)) (t u : Codes S) → Known before row u → Known before (lay before row t) u
-  known-laid row t u k = let r = lay-adds row t in rw (r .1) (known-front row (r .0) u k)
+  pub known_laid : (row : List (Codes S)) (t u : Codes S) → Known before row u → Known before (lay before row t) u
+  known_laid row t u k = let r = lay_adds row t in rw r.1 (known_front row r.0 u k)
 
   -- what laying down adds are parts
-  pub lay-parts : (row : List (Codes S)) (t u : Codes S) → listed before (lay before row t) u ≡ true → (listed before row u ≡ true) ⊎ Part t u
-  lay-parts row none u h = inl h
-  lay-parts row blank u h = inl h
-  lay-parts row (begun a z o) u h = by (both-ways (listed before row (begun a z o))) (lay-parts row z u) (lay-parts (lay before row z) o u)
+  pub lay_parts : (row : List (Codes S)) (t u : Codes S) → listed before (lay before row t) u ≡ true → (listed before row u ≡ true) ⊎ Part t u
+  lay_parts row none u h = inl h
+  lay_parts row blank u h = inl h
+  lay_parts row (begun a z o) u h = by (both_ways (listed before row (begun a z o))) (lay_parts row z u) (lay_parts (lay before row z) o u)
     where
-      outer-in : (listed before row u ≡ true) ⊎ Part z u → (listed before row u ≡ true) ⊎ Part (begun a z o) u
-      outer-in (inl k) = inl k
-      outer-in (inr k) = inr (inr (inl k))
+      outer_in : (listed before row u ≡ true) ⊎ Part z u → (listed before row u ≡ true) ⊎ Part (begun a z o) u
+      outer_in (inl k) = inl k
+      outer_in (inr k) = inr (inr (inl k))
 
-      inner-in : (listed before (lay before row z) u ≡ true → (listed before row u ≡ true) ⊎ Part z u) → (listed before (lay before row z) u ≡ true) ⊎ Part o u → (listed before row u ≡ true) ⊎ Part (begun a z o) u
-      inner-in outer (inl k) = outer-in (outer k)
-      inner-in outer (inr k) = inr (inr (inr k))
+      inner_in : (listed before (lay before row z) u ≡ true → (listed before row u ≡ true) ⊎ Part z u) → (listed before (lay before row z) u ≡ true) ⊎ Part o u → (listed before row u ≡ true) ⊎ Part (begun a z o) u
+      inner_in outer (inl k) = outer_in (outer k)
+      inner_in outer (inr k) = inr (inr (inr k))
 
       last : (listed before (lay before row z) u ≡ true → (listed before row u ≡ true) ⊎ Part z u) →
           (listed before (lay before (lay before row z) o) u ≡ true → (listed before (lay before row z) u ≡ true) ⊎ Part o u) →
           (listed before (lay before (lay before row z) o) u ≡ true) ⊎ (begun a z o ≡ u) → (listed before row u ≡ true) ⊎ Part (begun a z o) u
-      last outer inner (inl k) = inner-in outer (inner k)
+      last outer inner (inl k) = inner_in outer (inner k)
       last outer inner (inr k) = inr (inl k)
 
       by : (listed before row (begun a z o) ≡ true) ⊎ (listed before row (begun a z o) ≡ false) →
           (listed before (lay before row z) u ≡ true → (listed before row u ≡ true) ⊎ Part z u) →
           (listed before (lay before (lay before row z) o) u ≡ true → (listed before (lay before row z) u ≡ true) ⊎ Part o u) → (listed before row u ≡ true) ⊎ Part (begun a z o) u
-      by (inl e) outer inner = inl (rw (lay-held row a z o e) at h)
-      by (inr e) outer inner = last outer inner (listed-cases (lay before (lay before row z) o) (begun a z o) u (rw (lay-new row a z o e) at h))
+      by (inl e) outer inner = inl (rw (lay_held row a z o e) at h)
+      by (inr e) outer inner = last outer inner (listed_cases (lay before (lay before row z) o) (begun a z o) u (rw (lay_new row a z o e) at h))
 
   -- what is laid down last is new unless it was there before
-  pub still-new : (row : List (Codes S)) (a : S) (z o : Codes S) → listed before row (begun a z o) ≡ false → listed before (lay before (lay before row z) o) (begun a z o) ≡ false
-  still-new row a z o e = away (both-ways (listed before (lay before (lay before row z) o) (begun a z o)))
+  pub still_new : (row : List (Codes S)) (a : S) (z o : Codes S) → listed before row (begun a z o) ≡ false → listed before (lay before (lay before row z) o) (begun a z o) ≡ false
+  still_new row a z o e = away (both_ways (listed before (lay before (lay before row z) o) (begun a z o)))
     where
-      from-row : (listed before row (begun a z o) ≡ true) ⊎ Part z (begun a z o) → ⊥
-      from-row (inl k) = true-false k e
-      from-row (inr k) = omega (arith, part-small z (begun a z o) k)
+      from_row : (listed before row (begun a z o) ≡ true) ⊎ Part z (begun a z o) → ⊥
+      from_row (inl k) = true_false k e
+      from_row (inr k) = omega (arith, part_small z (begun a z o) k)
 
-      from-outer : (listed before (lay before row z) (begun a z o) ≡ true) ⊎ Part o (begun a z o) → ⊥
-      from-outer (inl k) = from-row (lay-parts row z (begun a z o) k)
-      from-outer (inr k) = omega (arith, part-small o (begun a z o) k)
+      from_outer : (listed before (lay before row z) (begun a z o) ≡ true) ⊎ Part o (begun a z o) → ⊥
+      from_outer (inl k) = from_row (lay_parts row z (begun a z o) k)
+      from_outer (inr k) = omega (arith, part_small o (begun a z o) k)
 
       away : (listed before (lay before (lay before row z) o) (begun a z o) ≡ true) ⊎ (listed before (lay before (lay before row z) o) (begun a z o) ≡ false) →
           listed before (lay before (lay before row z) o) (begun a z o) ≡ false
-      away (inl k) = absurd (from-outer (lay-parts (lay before row z) o (begun a z o) k))
+      away (inl k) = absurd (from_outer (lay_parts (lay before row z) o (begun a z o) k))
       away (inr k) = k
 
   -- a ledger stays one
-  pub lay-ledger : (row : List (Codes S)) (t : Codes S) → Ledger before row → Proper before t → Ledger before (lay before row t)
-  lay-ledger row none L p = L
-  lay-ledger row blank L p = L
-  lay-ledger row (begun a z o) L p = by (both-ways (listed before row (begun a z o)))
-      (lay-ledger (lay before row z) o (lay-ledger row z L (p .2)) (p .3))
+  pub lay_ledger : (row : List (Codes S)) (t : Codes S) → Ledger before row → Proper before t → Ledger before (lay before row t)
+  lay_ledger row none L p = L
+  lay_ledger row blank L p = L
+  lay_ledger row (begun a z o) L p = by (both_ways (listed before row (begun a z o)))
+      (lay_ledger (lay before row z) o (lay_ledger row z L p.2) p.3)
     where
       by : (listed before row (begun a z o) ≡ true) ⊎ (listed before row (begun a z o) ≡ false) → Ledger before (lay before (lay before row z) o) → Ledger before (lay before row (begun a z o))
-      by (inl e) M = rw (lay-held row a z o e) L
+      by (inl e) M = rw (lay_held row a z o e) L
       by (inr e) M =
-          one-more (lay before (lay before row z) o) a z o (lay-new row a z o e) M
-          (known-laid (lay before row z) o z (lay-knows row z))
-          (lay-knows (lay before row z) o)
+          one_more (lay before (lay before row z) o) a z o (lay_new row a z o e) M
+          (known_laid (lay before row z) o z (lay_knows row z))
+          (lay_knows (lay before row z) o)
           p
-          (still-new row a z o e)
+          (still_new row a z o e)

@@ -1,21 +1,13 @@
 -- Worked rows of the ledger, with letters as numbers in order of value: A is 65, B is 66, C is 67.
-use mathlib.Core.Path.{_≡_}
-use mathlib.Core.Bool.{Bool, true, false}
-use mathlib.Core.List.{List, [], _∷_, _++_}
-use Prim.Native.Nat.{ℕ}
-use lib.Dec.{ltb}
-use lib.ListN.{length}
-use Rattle·std.specs.Finite.{nth}
-use Rattle·std.specs.declared.option.Option.the-variants.{Some}
-use Rattle·std.specs.declared.result.Result.{Result}
-use Rattle·std.specs.declared.result.Result.the-variants.{Ok, Err}
-use Rattle·ledger·specs.Lists.{Codes}
-use Rattle·ledger·specs.declared.Vertex.{Vertex}
-use Rattle·ledger·specs.Diagrams.{look}
-use Rattle·ledger·specs.Ledger.{codes, Lays}
-use Rattle·ledger·specs.Operations.{takes, join, single, added, removed, under}
-use Rattle·ledger·specs.Ordered.{ordered}
-use Rattle·ledger·specs.Gather.{gather, renumber, Keeps}
+use Rattle.std.specs.Prelude.{◌≡◌, ℕ, Bool, true, false, List, [], ◌∷◌, ◌++◌, length, Some, Ok, Err, Result, nat_lt}
+use Rattle.std.specs.List.{slice_get}
+use Rattle.ledger.specs.Lists.{Codes}
+use Rattle.ledger.specs.declared.Vertex.{Vertex}
+use Rattle.ledger.specs.Diagrams.{look}
+use Rattle.ledger.specs.Ledger.{codes, Lays}
+use Rattle.ledger.specs.Operations.{takes, join, single, added, removed, under}
+use Rattle.ledger.specs.Ordered.{ordered}
+use Rattle.ledger.specs.Gather.{gather, renumber, Keeps}
 
 abbrev pub A : List ℕ
 A = 65 ∷ []
@@ -44,33 +36,33 @@ third = second ++ vertex 66 1 1 ∷ vertex 65 5 2 ∷ []
 
 -- a list laid down where there may be `capacity` vertices: the answer, or refusal 9
 abbrev pub Answers : ℕ → List (Vertex ℕ) → Codes ℕ → Result ℕ ℕ → List (Vertex ℕ) → Type 0
-Answers capacity vs t r ws = Lays ltb capacity vs t r ws
+Answers capacity vs t r ws = Lays nat_lt capacity vs t r ws
 
 -- what clearing out marks when it keeps 4
 abbrev pub marks : List Bool
 marks = true ∷ false ∷ true ∷ false ∷ false ∷ []
 
 pub record Rows : Type 0 where
-  pub add-AB : Answers 10 [] (added ltb (codes [] 0) AB) (Ok 3) first
-  pub two-is-B : codes first 2 ≡ single B
-  pub add-B : Answers 10 first (added ltb (codes first 3) B) (Ok 4) second
-  pub links-of-4 : look second 4 ≡ Some (vertex 65 2 2)
-  pub remove-AB : Answers 10 second (removed ltb (codes second 4) AB) (Ok 2) second
-  pub add-empty : Answers 10 second (added ltb (codes second 4) []) (Ok 6) third
-  pub five-is : ordered (codes third 5) ≡ [] ∷ B ∷ []
-  pub join-3 : Answers 10 third (join ltb (takes 3) (codes third 4) (codes third 3)) (Ok 2) third
-  pub join-7 : Answers 10 third (join ltb (takes 7) (codes third 2) (codes third 3)) (Ok 4) third
-  pub pick-0 : nth (ordered (codes third 6)) 0 ≡ Some []
-  pub pick-1 : nth (ordered (codes third 6)) 1 ≡ Some AB
-  pub pick-2 : nth (ordered (codes third 6)) 2 ≡ Some B
-  pub under-A : under ltb (codes third 6) A ≡ codes third 2
-  pub under-AB : under ltb (codes third 6) AB ≡ codes third 1
-  pub under-C : under ltb (codes third 6) C ≡ codes third 0
-  pub keep-4 : Keeps third (4 ∷ []) marks
-  pub four-becomes : renumber marks 4 ≡ 3
-  pub used-then : length (gather marks third) ≡ 2
+  pub add_ab : Answers 10 [] (added nat_lt (codes [] 0) AB) (Ok 3) first
+  pub two_is_b : codes first 2 ≡ single B
+  pub add_b : Answers 10 first (added nat_lt (codes first 3) B) (Ok 4) second
+  pub links_of_4 : look second 4 ≡ Some (vertex 65 2 2)
+  pub remove_ab : Answers 10 second (removed nat_lt (codes second 4) AB) (Ok 2) second
+  pub add_empty : Answers 10 second (added nat_lt (codes second 4) []) (Ok 6) third
+  pub five_is : ordered (codes third 5) ≡ [] ∷ B ∷ []
+  pub join_3 : Answers 10 third (join nat_lt (takes 3) (codes third 4) (codes third 3)) (Ok 2) third
+  pub join_7 : Answers 10 third (join nat_lt (takes 7) (codes third 2) (codes third 3)) (Ok 4) third
+  pub pick_0 : slice_get (ordered (codes third 6)) 0 ≡ Some []
+  pub pick_1 : slice_get (ordered (codes third 6)) 1 ≡ Some AB
+  pub pick_2 : slice_get (ordered (codes third 6)) 2 ≡ Some B
+  pub under_a : under nat_lt (codes third 6) A ≡ codes third 2
+  pub under_ab : under nat_lt (codes third 6) AB ≡ codes third 1
+  pub under_c : under nat_lt (codes third 6) C ≡ codes third 0
+  pub keep_4 : Keeps third (4 ∷ []) marks
+  pub four_becomes : renumber marks 4 ≡ 3
+  pub used_then : length (gather marks third) ≡ 2
   pub stay : gather marks third ≡ vertex 66 0 1 ∷ vertex 65 2 2 ∷ []
   -- with capacity 2
-  pub narrow-add-AB : Answers 2 [] (added ltb (codes [] 0) AB) (Ok 3) first
-  pub narrow-add-B : Answers 2 first (added ltb (codes first 3) B) (Err 9) first
-  pub narrow-again : Answers 2 first (added ltb (codes first 0) B) (Ok 2) first
+  pub narrow_add_ab : Answers 2 [] (added nat_lt (codes [] 0) AB) (Ok 3) first
+  pub narrow_add_b : Answers 2 first (added nat_lt (codes first 3) B) (Err 9) first
+  pub narrow_again : Answers 2 first (added nat_lt (codes first 0) B) (Ok 2) first

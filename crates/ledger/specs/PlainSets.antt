@@ -1,26 +1,21 @@
 -- Lists are plain finite sets of codes. `Codes` takes a list apart, and is only a means: what is said here speaks of
 -- which codes are in a list.
-use mathlib.Core.Path.{_≡_}
-use mathlib.Core.Bool.{Bool, true, false}
-use mathlib.Core.List.{List, [], _∷_, _++_, List·Memᴰ}
-use mathlib.Core.Logic.{_↔_, _⊎_}
-use Prim.Native.Nat.{ℕ, _/_, _%_}
-use lib.ListN.{length}
-use Rattle·std.specs.Finite.{nth}
-use Rattle·std.specs.declared.option.Option.the-variants.{Some}
-use Rattle·symbols.specs.Order.{Order}
-use Rattle·ledger·specs.Lists.{Codes, none, blank, begun, Member, Proper, SameMembers}
-use Rattle·ledger·specs.Diagrams.{Counts}
-use Rattle·ledger·specs.Operations.{has, takes, join, added, removed, under}
-use Rattle·ledger·specs.Ordered.{code-before, ordered, Ascending}
+use Rattle.std.specs.Prelude.{◌≡◌, ℕ, ◌/◌, ◌%◌, Bool, true, false, ◌⊎◌, ◌↔◌, List, [], ◌∷◌, ◌++◌, length, Some, ◌≢◌}
+use mathlib.Core.List.{Memᴰ}
+use Rattle.std.specs.List.{slice_get}
+use Rattle.symbols.specs.Order.{Order}
+use Rattle.ledger.specs.Lists.{Codes, none, blank, begun, Member, Proper, SameMembers}
+use Rattle.ledger.specs.Diagrams.{Counts}
+use Rattle.ledger.specs.Operations.{has, takes, join, added, removed, under}
+use Rattle.ledger.specs.Ordered.{code_before, ordered, Ascending}
 
 -- a list is its codes, and all finite collections of codes are lists
 pub record AreSets {S : Type 0} (before : S → S → Bool) : Type 0 where
   pub same : (t u : Codes S) → Proper before t → Proper before u → SameMembers t u → t ≡ u
-  pub every : (cs : List (List S)) → (t : Codes S) × Proper before t × ((c : List S) → Member t c ↔ List·Memᴰ c cs)
+  pub every : (cs : List (List S)) → (t : Codes S) × Proper before t × ((c : List S) → Member t c ↔ Memᴰ c cs)
   -- list 0 has no code, and list 1 the empty code alone
-  pub list-0 : (c : List S) → Member {S = S} none c → ⊥
-  pub list-1 : (c : List S) → Member {S = S} blank c ↔ (c ≡ [])
+  pub list_0 : (c : List S) → Member {S = S} none c → ⊥
+  pub list_1 : (c : List S) → Member {S = S} blank c ↔ (c ≡ [])
 
 -- every other list falls apart into what begins with its head and what does not
 pub record FallsApart {S : Type 0} (before : S → S → Bool) (a : S) (outer inner : Codes S) : Type 0 where
@@ -30,10 +25,10 @@ pub record FallsApart {S : Type 0} (before : S → S → Bool) (a : S) (outer in
   pub earliest : (s : S) (rest : List S) → Member (begun a outer inner) (s ∷ rest) → before s a ≡ false
   -- the inner list is what remains of the codes that begin with the head, and the outer list is all other codes
   pub inside : (rest : List S) → Member inner rest ↔ Member (begun a outer inner) (a ∷ rest)
-  pub outside : (c : List S) → Member outer c ↔ (Member (begun a outer inner) c × ((rest : List S) → c ≡ a ∷ rest → ⊥))
+  pub outside : (c : List S) → Member outer c ↔ (Member (begun a outer inner) c × ((rest : List S) → c ≢ a ∷ rest))
   -- both are lists again
-  pub outer-proper : Proper before outer
-  pub inner-proper : Proper before inner
+  pub outer_proper : Proper before outer
+  pub inner_proper : Proper before inner
 
 abbrev pub TakenApart : {S : Type 0} → (S → S → Bool) → Type 0
 TakenApart {S} before = (a : S) (outer inner : Codes S) → Proper before (begun a outer inner) → FallsApart before a outer inner
@@ -46,9 +41,9 @@ Taken rule P Q =
 -- the test is membership, and a join takes what its rule says
 pub record Joins {S : Type 0} (before : S → S → Bool) (t u : Codes S) : Type 0 where
   pub test : (c : List S) → (has before t c ≡ true) ↔ Member t c
-  pub by-test : (f : Bool → Bool → Bool) → f false false ≡ false →
+  pub by_test : (f : Bool → Bool → Bool) → f false false ≡ false →
       Proper before (join before f t u) × ((c : List S) → Member (join before f t u) c ↔ (f (has before t c) (has before u c) ≡ true))
-  pub by-rule : (rule : ℕ) → Proper before (join before (takes rule) t u) × ((c : List S) → Member (join before (takes rule) t u) c ↔ Taken rule (Member t c) (Member u c))
+  pub by_rule : (rule : ℕ) → Proper before (join before (takes rule) t u) × ((c : List S) → Member (join before (takes rule) t u) c ↔ Taken rule (Member t c) (Member u c))
 
 abbrev pub Joining : {S : Type 0} → (S → S → Bool) → Type 0
 Joining {S} before = (t u : Codes S) → Proper before t → Proper before u → Joins before t u
@@ -56,7 +51,7 @@ Joining {S} before = (t u : Codes S) → Proper before t → Proper before u →
 -- a list with a code, without it, and what remains under it
 pub record ByCode {S : Type 0} (before : S → S → Bool) (t : Codes S) (c : List S) : Type 0 where
   pub with : Proper before (added before t c) × ((d : List S) → Member (added before t c) d ↔ (Member t d ⊎ (d ≡ c)))
-  pub without : Proper before (removed before t c) × ((d : List S) → Member (removed before t c) d ↔ (Member t d × (d ≡ c → ⊥)))
+  pub without : Proper before (removed before t c) × ((d : List S) → Member (removed before t c) d ↔ (Member t d × (d ≢ c)))
   pub remaining : Proper before (under before t c) × ((d : List S) → Member (under before t c) d ↔ Member t (c ++ d))
 
 abbrev pub Changing : {S : Type 0} → (S → S → Bool) → Type 0
@@ -65,11 +60,11 @@ Changing {S} before = (t : Codes S) → Proper before t → (c : List S) → ByC
 -- the codes in their order: each once, as many as the count; pick k is the code with just k before it
 pub record InOrder {S : Type 0} (before : S → S → Bool) (t : Codes S) : Type 0 where
   pub ascending : Ascending before (ordered t)
-  pub members : (c : List S) → List·Memᴰ c (ordered t) ↔ Member t c
+  pub members : (c : List S) → Memᴰ c (ordered t) ↔ Member t c
   pub count : Counts (Member t) (length (ordered t))
   pub pick : (k : ℕ) (c : List S) →
-      (nth (ordered t) k ≡ Some c) ↔ (Member t c × Counts (λ d. Member t d × (code-before before d c ≡ true)) k)
+      (slice_get (ordered t) k ≡ Some c) ↔ (Member t c × Counts (λ d. Member t d × (code_before before d c ≡ true)) k)
 
 pub record Ordering {S : Type 0} (before : S → S → Bool) : Type 0 where
-  pub codes-ordered : Order (code-before before)
+  pub codes_ordered : Order (code_before before)
   pub each : (t : Codes S) → Proper before t → InOrder before t

@@ -1,18 +1,14 @@
 -- What is proved of every row of vertices, every diagram and every dispatch.
-use mathlib.Core.Path.{_≡_}
-use mathlib.Core.Bool.{Bool}
-use mathlib.Core.List.{List, [], _++_, List·Memᴰ}
-use mathlib.Core.Logic.{_↔_, _⊎_}
-use Prim.Native.Nat.{ℕ, _≤_}
-use lib.ListN.{length}
-use Rattle·ledger·specs.Lists.{Codes, Member, Proper, Part}
-use Rattle·ledger·specs.declared.Vertex.{Vertex}
-use Rattle·ledger·specs.Diagrams.{Has, SameCodes, Good, Formed, Different, Sound, IsDiagram, Reached, Counts}
-use Rattle·ledger·specs.Ledger.{lay, lists, codes, down, down-number, fresh}
-use Rattle·ledger·specs.Laid.{laying}
-use Rattle·ledger·specs.Gather.{keep, renumber, gather, Marked, Gatherable, Keeps}
-use Rattle·ledger·specs.Dispatch.{dispatch}
-use Rattle·ledger·specs.Visits.{Visits}
+use Rattle.std.specs.Prelude.{◌≡◌, ℕ, ◌≤◌, Bool, ◌⊎◌, ◌↔◌, List, [], ◌++◌, length}
+use mathlib.Core.List.{Memᴰ}
+use Rattle.ledger.specs.Lists.{Codes, Member, Proper, Part}
+use Rattle.ledger.specs.declared.Vertex.{Vertex}
+use Rattle.ledger.specs.Diagrams.{Has, SameCodes, Good, Formed, Different, Sound, IsDiagram, Reached, Counts}
+use Rattle.ledger.specs.Ledger.{lay, lists, codes, down, down_number, fresh}
+use Rattle.ledger.specs.Laid.{laying}
+use Rattle.ledger.specs.Gather.{keep, renumber, gather, Marked, Gatherable, Keeps}
+use Rattle.ledger.specs.Dispatch.{dispatch}
+use Rattle.ledger.specs.Visits.{Visits}
 
 -- two good numbers are equal exactly when they have the same codes
 abbrev pub Canonical : {S : Type 0} → (S → S → Bool) → Type 0
@@ -42,7 +38,7 @@ pub record LeastDiagram {S : Type 0} (before : S → S → Bool) (vs : List (Ver
 abbrev pub Attained : {S : Type 0} → (S → S → Bool) → Type 0
 Attained {S} before =
     (vs : List (Vertex S)) → Sound before vs → (n : ℕ) → Good vs n →
-    LeastDiagram before vs n (fresh before (codes vs n) .drawn) (fresh before (codes vs n) .root)
+    LeastDiagram before vs n (fresh before (codes vs n)).drawn (fresh before (codes vs n)).root
 
 -- the vertices of a fresh ledger are sound
 abbrev pub FreshSound : {S : Type 0} → (S → S → Bool) → Type 0
@@ -64,7 +60,7 @@ pub record LaidDown {S : Type 0} (before : S → S → Bool) (vs : List (Vertex 
   pub old : (m : ℕ) → Good vs m → SameCodes vs m ws m
   -- the number has the list's codes
   pub good : Good ws n
-  pub codes-are : (c : List S) → Has ws n c ↔ Member t c
+  pub codes_are : (c : List S) → Has ws n c ↔ Member t c
   -- a list that has a number keeps it, and nothing is appended
   pub already : (m : ℕ) → Good vs m → ((c : List S) → Has vs m c ↔ Member t c) → (ws ≡ vs) × (n ≡ m)
 
@@ -72,7 +68,7 @@ pub record LaidDown {S : Type 0} (before : S → S → Bool) (vs : List (Vertex 
 abbrev pub LayingDown : {S : Type 0} → (S → S → Bool) → Type 0
 LayingDown {S} before =
     (vs : List (Vertex S)) → Sound before vs → (t : Codes S) → Proper before t →
-    LaidDown before vs t (down before vs t) (down-number before vs t) × (laying before vs t ≡ (down before vs t, down-number before vs t))
+    LaidDown before vs t (down before vs t) (down_number before vs t) × (laying before vs t ≡ (down before vs t, down_number before vs t))
 
 -- clearing out by marks that keep just what is reached from the numbers ks
 pub record ClearedOut {S : Type 0} (before : S → S → Bool) (vs : List (Vertex S)) (ks : List ℕ) (ms : List Bool) : Type 0 where
@@ -82,7 +78,7 @@ pub record ClearedOut {S : Type 0} (before : S → S → Bool) (vs : List (Verte
   -- exactly the marked lists stay, in their order
   pub row : lists (gather ms vs) ≡ keep ms (lists vs)
   -- each that is kept has its codes under its new number
-  pub kept : (k : ℕ) → List·Memᴰ k ks → Good vs k → Marked ms k
+  pub kept : (k : ℕ) → Memᴰ k ks → Good vs k → Marked ms k
   pub renumbered : (n : ℕ) → Good vs n → Marked ms n → Good (gather ms vs) (renumber ms n) × SameCodes vs n (gather ms vs) (renumber ms n)
 
 pub record ClearingOut {S : Type 0} (before : S → S → Bool) : Type 0 where
@@ -95,7 +91,7 @@ pub record ClearingOut {S : Type 0} (before : S → S → Bool) : Type 0 where
 abbrev pub ReadBack : {S : Type 0} → (S → S → Bool) → Type 0
 ReadBack {S} before =
     (t : Codes S) → Proper before t →
-    Sound before (fresh before t .drawn) × Good (fresh before t .drawn) (fresh before t .root) × (codes (fresh before t .drawn) (fresh before t .root) ≡ t)
+    Sound before (fresh before t).drawn × Good (fresh before t).drawn (fresh before t).root × (codes (fresh before t).drawn (fresh before t).root ≡ t)
 
 -- vertices that are formed one by one are those that writing their root's list gives exactly when no two are equal and
 -- the walk that lays the root's list down comes by all of them, in their order

@@ -1,24 +1,25 @@
 // What laying down and clearing out do to sound vertices: so vertices are sound after any run of them.
-ghost use Rattle·ledger·specs.Statements.{FreshSound, LayingDown, ClearingOut};
+ghost use Rattle.ledger.specs.Statements.{FreshSound, LayingDown, ClearingOut};
+
 use symbols::Symbol;
 
 // A fresh ledger's vertices are sound.
 pub fn fresh_sound<S: Symbol>() -> u8
-    ensures { λ _. ⌜ FreshSound (S·Symbol .before) ⌝ }
+    ensures { FreshSound S.Symbol.before }
 {
     0
 }
 
 // Laying down only appends, and appends what the ledger says.
 pub fn laying_down<S: Symbol>() -> u8
-    ensures { λ _. ⌜ LayingDown (S·Symbol .before) ⌝ }
+    ensures { LayingDown S.Symbol.before }
 {
     0
 }
 
 // Clearing out keeps just the kept lists and all reached from them, in their order, each with its codes.
 pub fn clearing_out<S: Symbol>() -> u8
-    ensures { λ _. ⌜ ClearingOut (S·Symbol .before) ⌝ }
+    ensures { ClearingOut S.Symbol.before }
 {
     0
 }

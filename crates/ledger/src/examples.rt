@@ -1,14 +1,16 @@
 // Worked rows of the ledger, and one kind of symbol of which all theorems hold.
-ghost use lib.Dec.{ltb};
-ghost use Rattle·ledger·specs.Examples.{Rows};
-ghost use Rattle·ledger·specs.Statements.{Canonical};
-ghost use Rattle·ledger·specs.declared.examples.Numeral.{Numeral};
+ghost use Rattle.std.specs.Prelude.{nat_lt};
+ghost use Rattle.ledger.specs.Examples.{Rows};
+ghost use Rattle.ledger.specs.Statements.{Canonical};
+ghost use Rattle.ledger.specs.declared.examples.Numeral.{Numeral};
+ghost use Rattle.symbols.proofs.Coded.{by_code};
+
 use crate::diagrams;
 use symbols::Symbol;
 
 // The worked rows, by one statement.
 pub fn rows() -> u8
-    ensures { λ _. ⌜ Rows ⌝ }
+    ensures { Rows }
 {
     0
 }
@@ -19,10 +21,12 @@ pub struct Numeral {
     pub value: u32,
 }
 
-pub impl Symbol for Numeral as NumeralSymbol {
-    ghost before = { λ a b. ltb (a .value) (b .value) };
+impl Symbol for Numeral {
+    ghost before = { λ a b. nat_lt a.value b.value };
 
-    ghost scatter = { λ a. a .value };
+    ghost scatter = { λ a. a.value };
+
+    ghost ordered = { by_code (λ x. x.value) (λ x y e i. record { value = e i }) };
 
     fn before(self, other: Numeral) -> bool {
         self.value < other.value
@@ -35,7 +39,7 @@ pub impl Symbol for Numeral as NumeralSymbol {
 
 // The theorems hold of a kind of symbol that there is.
 pub fn canonical_numerals() -> u8
-    ensures { λ _. ⌜ Canonical {S = Numeral} (λ a b. ltb (a .value) (b .value)) ⌝ }
+    ensures { Canonical {S = Numeral} (λ a b. nat_lt a.value b.value) }
 {
     diagrams::canonical::<Numeral>()
 }

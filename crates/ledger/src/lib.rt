@@ -4,6 +4,8 @@
 // Each theorem stands on the contract of a function that does nothing else: `lists` says that lists are plain sets of
 // codes, `diagrams` that sound vertices are the least diagram of each list, `changes` what laying down and clearing out
 // do, `dispatches` what is written of a list, and `examples` shows it all on worked rows.
+#![tactic(auto)]
+
 pub mod changes;
 pub mod diagrams;
 pub mod dispatches;

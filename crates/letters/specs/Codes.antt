@@ -1,17 +1,14 @@
 -- A code of letters and its text.
-use mathlib.Core.List.{List, [], _∷_, map}
-use Prim.Native.Nat.{ℕ}
-use Rattle·std.specs.declared.result.Result.{Result}
-use Rattle·std.specs.declared.result.Result.the-variants.{Ok, Err}
-use Rattle·symbols.specs.declared.SymbolFault.{SymbolFault}
-use Rattle·texts.specs.declared.TextFault.{TextFault}
-use Rattle·texts.specs.declared.TextFault.the-variants.{Symbol}
-use Rattle·letters·specs.Letters.{byte-of, letter-of}
-use Rattle·letters·specs.declared.Letter.{Letter}
+use Rattle.std.specs.Prelude.{ℕ, List, [], ◌∷◌, map, Ok, Err, Result}
+use Rattle.symbols.specs.declared.SymbolFault.{SymbolFault}
+use Rattle.texts.specs.declared.TextFault.{TextFault}
+use Rattle.texts.specs.declared.TextFault.TheVariants.{Symbol}
+use Rattle.letters.specs.Letters.{byte_of, letter_of}
+use Rattle.letters.specs.declared.Letter.{Letter}
 
 -- the text of a code: the byte of each letter
-abbrev pub text-of : List Letter → List ℕ
-text-of code = map byte-of code
+abbrev pub text_of : List Letter → List ℕ
+text_of code = map byte_of code
 
 -- one letter more in front; the first fault wins
 abbrev pub behind : Result Letter SymbolFault → Result (List Letter) TextFault → Result (List Letter) TextFault
@@ -22,4 +19,4 @@ behind (Ok letter) (Ok code) = Ok (letter ∷ code)
 -- the letters of a text's bytes, or the fault of the first byte that is no letter
 abbrev pub spelled : List ℕ → Result (List Letter) TextFault
 spelled [] = Ok []
-spelled (b ∷ bs) = behind (letter-of b) (spelled bs)
+spelled (b ∷ bs) = behind (letter_of b) (spelled bs)

@@ -1,2 +1,4 @@
 pub mod Codes
 pub mod Letters
+pub mod Bytes
+pub mod Spelling

@@ -2,26 +2,22 @@
 //
 // A letter is one of 95 cases, so no value of the type is another byte. A code of letters has its bytes as its text: a space
 // and a slash are letters like any other, and nothing is trimmed. Reading looks at each byte twice, writing at each letter once.
-ghost use Prim.Native.Nat.{_*_, _%_, _^_};
-ghost use lib.Dec.{ltb};
-ghost use lib.ListN.{getD};
-ghost use mathlib.Core.List.{[], _∷_};
-ghost use mathlib.Core.Path.{_≡_};
-ghost use Rattle·std.specs.Orderings.{Decides};
-ghost use Rattle·std.specs.Vec.{made};
-ghost use Rattle·std.specs.declared.result.Result.the-variants.{Ok};
-ghost use Rattle·letters·specs.Letters.{byte-of, letter-of};
-ghost use Rattle·letters·specs.Codes.{spelled, text-of};
-ghost use Rattle·texts.specs.Texts.{Begun, WrittenTo};
-use symbols::Symbol;
-use symbols::SymbolFault;
-use symbols::WireSymbol;
-use symbols::same;
-use texts::ShortText;
-use texts::TextFault;
-use texts::TextFromSymbol;
-use texts::TextSymbol;
-use texts::put;
+#![tactic(auto)]
+
+ghost use Rattle.std.specs.Prelude.{◌≡◌, ◌*◌, ◌%◌, ◌^◌, ◌==◌, ◌↔◌, true, [], ◌∷◌, Ok, OnOk, nat_lt, slice_index, refl};
+ghost use Rattle.std.specs.Ordering.{on};
+ghost use Rattle.letters.specs.Letters.{byte_of, letter_of};
+ghost use Rattle.letters.specs.Codes.{spelled, text_of};
+ghost use Rattle.texts.specs.Texts.{Begun, WrittenTo};
+ghost use Rattle.std.specs.Cmp.Rules.{comparing};
+ghost use Rattle.std.proofs.Common.{rules, arith};
+ghost use Rattle.std.specs.Cmp as Keys;
+ghost use Rattle.symbols.proofs.Coded.{by_code};
+ghost use Rattle.letters.specs.Bytes.{one_byte, byte_back, wire_own};
+ghost use Rattle.letters.specs.Spelling.{own_text};
+
+use symbols::{Symbol, SymbolFault, WireSymbol, same};
+use texts::{ShortText, TextFault, TextSymbol, put};
 
 // The number of this kind.
 const KIND: u8 = 1;
@@ -131,7 +127,7 @@ pub enum Letter {
 impl Letter {
     // The letter of a byte.
     pub fn from_byte(b: u8) -> Result<Letter, SymbolFault>
-        ensures { λ r. ⌜ r ≡ letter-of b ⌝ }
+        ensures { result ≡ letter_of b }
     {
         let letter = match b {
             b' ' => Letter::Space,
@@ -236,26 +232,35 @@ impl Letter {
 
     // The byte of a letter.
     pub fn to_byte(self) -> u8
-        ensures { λ r. ⌜ r ≡ byte-of self ⌝ }
+        ensures { result ≡ byte_of self }
     {
         self as u8
     }
 }
 
-pub impl PartialEq<Letter> for Letter as LetterPartialEq {
-    ghost equals = { λ a b r. Decides r (a ≡ b) };
+impl PartialEq for Letter {
+    ghost eq = { on byte_of ◌==◌ };
 
-    fn eq(&self, other: &Letter) -> bool {
+    ghost laws = { Keys.partial_equiv_from_equiv (Prim.search (comparing, rules)) };
+
+    fn eq(&self, other: &Letter) -> bool
+        ensures value { result ≡ on byte_of ◌==◌ self.now other.now }
+        ensures same { (result ≡ true) ↔ (self.now ≡ other.now) }
+    {
         same(*self, *other)
     }
 }
 
-pub impl Eq for Letter as LetterEq {}
+impl Eq for Letter {
+    ghost laws = { Prim.search (comparing, rules) };
+}
 
-pub impl Symbol for Letter as LetterSymbol {
-    ghost before = { λ a b. ltb (byte-of a) (byte-of b) };
+impl Symbol for Letter {
+    ghost before = { λ a b. nat_lt (byte_of a) (byte_of b) };
 
-    ghost scatter = { λ a. byte-of a * 2654435761 % 2 ^ 32 };
+    ghost scatter = { λ a. byte_of a * 2654435761 % 2 ^ 32 };
+
+    ghost ordered = { by_code byte_of one_byte };
 
     fn before(self, other: Letter) -> bool {
         self.to_byte() < other.to_byte()
@@ -266,14 +271,23 @@ pub impl Symbol for Letter as LetterSymbol {
     }
 }
 
-pub impl WireSymbol for Letter as LetterWire {
+impl WireSymbol for Letter {
     ghost kind = { 1 };
 
     ghost width = { 1 };
 
-    ghost bytes = { λ a. byte-of a ∷ [] };
+    ghost bytes = { λ a. byte_of a ∷ [] };
 
-    ghost reads = { λ bs. letter-of (getD bs 0 0) };
+    ghost reads = { λ bs. letter_of (slice_index bs 0) };
+
+    ghost wired = { record {
+      one_byte = omega arith;
+      some = omega arith;
+      few = omega arith;
+      long = λ x. refl;
+      back = byte_back;
+      own = wire_own;
+    } };
 
     fn kind() -> u8 {
         KIND
@@ -292,10 +306,12 @@ pub impl WireSymbol for Letter as LetterWire {
     }
 }
 
-pub impl TextSymbol for Letter as LetterText {
+impl TextSymbol for Letter {
     ghost spells = { spelled };
 
-    ghost text = { text-of };
+    ghost text = { text_of };
+
+    ghost own = { own_text };
 
     // Reads twice: first with no room at all, to see that every byte is a letter.
     fn read_code(from: &[u8], out: &mut [Letter]) -> Result<usize, TextFault> {
@@ -310,7 +326,7 @@ pub impl TextSymbol for Letter as LetterText {
 
 // Reads the letters of a text to the start of `out`, as far as there is room, up to the first byte that is none.
 fn read_letters(from: &[u8], out: &mut [Letter]) -> Result<usize, TextFault>
-    ensures { λ r. ⌜ Begun (spelled (now (from .entry))) (now (out .entry)) r (now (out .exit)) ⌝ }
+    ensures { Begun (spelled from.now) out.old result out.new }
 {
     for (i, b) in from.iter().enumerate() {
         let letter = Letter::from_byte(*b)?;
@@ -321,8 +337,8 @@ fn read_letters(from: &[u8], out: &mut [Letter]) -> Result<usize, TextFault>
 
 // Writes the bytes of the letters of a code to the start of `out`, if there is room for all.
 fn write_letters(code: &[Letter], out: &mut [u8]) -> Result<usize, ShortText>
-    ensures answer { λ r. ⌜ WrittenTo (text-of (now (code .entry))) (now (out .entry)) r (now (out .exit)) ⌝ }
-    ensures back { λ r. ⌜ made r (λ _. spelled (text-of (now (code .entry))) ≡ Ok (now (code .entry))) ⌝ }
+    ensures answer { WrittenTo (text_of code.now) out.old result out.new }
+    ensures back { OnOk result (spelled (text_of code.now) ≡ Ok code.now) }
 {
     if code.len() > out.len() {
         return Err(ShortText);

@@ -1,49 +1,41 @@
 -- Marks in places: reading one, counting them, and the numbers that the places get.
-use Prim.Native.Nat.{ℕ, zero, suc, _+_, _-_, _<_, _≤_}
-use mathlib.Core.Bool.{Bool, true, false, not}
-use mathlib.Core.List.{List, [], _∷_}
-use mathlib.Core.Logic.{_↔_, _⊎_, inl, inr}
-use mathlib.Core.Path.{_≡_, refl, sym, ap, _∙_}
-use native.Mathlib.Omega.{arith}
-use native.Mathlib.Numerals.{add-one}
-use lib.Dec.{eqb}
-use lib.ListN.{length, getD, set}
-use mir.Val.{boolByte}
-use Rattle·std.proofs.shelf.Lists.{getD-map, getD-past, length-map, map-set, set-getD, getD-set-same, getD-set-other}
-use Rattle·std.proofs.shelf.Tests.{both-ways, cases-eq}
-use Rattle·ledger.specs.Gather.{marked-before, renumber, Marked}
-use Rattle·memory·specs.declared.work.Place.{Place}
-use Rattle·memory·specs.Marks.{number-at, noted}
-use Rattle·memory·specs.Shelves.{is-mark, marks-in, Renumbered}
+use Rattle.std.proofs.Common.{◌≡◌, ℕ, zero, suc, ◌+◌, ◌-◌, ◌<◌, ◌≤◌, Bool, true, false, not, eqb, ◌⊎◌, ◌↔◌, List, [], ◌∷◌, length, get_or, set, sym, refl, ap, ◌∙◌, inl, inr, add-one, arith}
+use mir.Val.{bool_byte}
+use Rattle.std.proofs.lemmas.List.{get_or-map, get_or_past, length-map, map-set, set-get_or, get_or-set_same, get_or-set_other}
+use Rattle.std.proofs.lemmas.Bool.{both_ways, cases_eq}
+use Rattle.ledger.specs.Gather.{marked_before, renumber, Marked}
+use Rattle.memory.specs.declared.work.Place.{Place}
+use Rattle.memory.specs.Marks.{number_at, noted}
+use Rattle.memory.specs.Shelves.{is_mark, marks_in, Renumbered}
 
 -- what a place says of its vertex
-mark-read : (ps : List Place) (k : ℕ) (p : Place) → k < length ps → p ≡ getD ps k p → getD (marks-in ps) k false ≡ is-mark p
-mark-read ps k p h e = getD-map is-mark ps k p false h ∙ ap is-mark (sym e)
+mark_read : (ps : List Place) (k : ℕ) (p : Place) → k < length ps → p ≡ get_or ps k p → get_or (marks_in ps) k false ≡ is_mark p
+mark_read ps k p h e = get_or-map is_mark ps k p false h ∙ ap is_mark (sym e)
 
-pub marked-at : (ps : List Place) (n : ℕ) (p : Place) → 2 ≤ n → n - 2 < length ps → p ≡ getD ps (n - 2) p → (is-mark p ≡ true) ↔ Marked (marks-in ps) n
-marked-at ps zero p l h e = absurd (omega arith)
-marked-at ps (suc zero) p l h e = absurd (omega arith)
-marked-at ps (suc (suc k)) p l h e =
+pub marked_at : (ps : List Place) (n : ℕ) (p : Place) → 2 ≤ n → n - 2 < length ps → p ≡ get_or ps (n - 2) p → (is_mark p ≡ true) ↔ Marked (marks_in ps) n
+marked_at ps zero p l h e = absurd (omega arith)
+marked_at ps (suc zero) p l h e = absurd (omega arith)
+marked_at ps (suc (suc k)) p l h e =
     let back : suc (suc k) - 2 ≡ k = omega arith in
-    let r = mark-read ps k p (rw back at h) (rw back at e) in
+    let r = mark_read ps k p (rw back at h) (rw back at e) in
     (λ m. r ∙ m, λ m. sym r ∙ m)
 
-pub unmarked-past : (ps : List Place) (n : ℕ) → 2 ≤ n → length ps ≤ n - 2 → Marked (marks-in ps) n → ⊥
-unmarked-past ps zero l h m = absurd (omega arith)
-unmarked-past ps (suc zero) l h m = absurd (omega arith)
-unmarked-past ps (suc (suc k)) l h m =
-    both-ways _ (getD-past (marks-in ps) k false (omega (arith, length-map ps is-mark))) m
+pub unmarked_past : (ps : List Place) (n : ℕ) → 2 ≤ n → length ps ≤ n - 2 → Marked (marks_in ps) n → ⊥
+unmarked_past ps zero l h m = absurd (omega arith)
+unmarked_past ps (suc zero) l h m = absurd (omega arith)
+unmarked_past ps (suc (suc k)) l h m =
+    both_ways _ (get_or_past (marks_in ps) k false (omega (arith, length-map ps is_mark))) m
 
 -- a mark counts for at most one
-pub mark-few : (n : ℕ) (b : Bool) → n ≡ boolByte b → n ≤ 1
-mark-few n true e = omega arith
-mark-few n false e = omega arith
+pub mark_few : (n : ℕ) (b : Bool) → n ≡ bool_byte b → n ≤ 1
+mark_few n true e = omega arith
+mark_few n false e = omega arith
 
 -- one mark more
-pub before-more : (ms : List Bool) (i : ℕ) → marked-before ms (i + 1) ≡ marked-before ms i + boolByte (getD ms i false)
-before-more ms i = rw add-one (by ms i)
+pub before_more : (ms : List Bool) (i : ℕ) → marked_before ms (i + 1) ≡ marked_before ms i + bool_byte (get_or ms i false)
+before_more ms i = rw add-one (by ms i)
   where
-    by : (ms : List Bool) (i : ℕ) → marked-before ms (suc i) ≡ marked-before ms i + boolByte (getD ms i false)
+    by : (ms : List Bool) (i : ℕ) → marked_before ms (suc i) ≡ marked_before ms i + bool_byte (get_or ms i false)
     by [] i = refl
     by (true ∷ []) zero = refl
     by (true ∷ m ∷ ms) zero = refl
@@ -52,81 +44,81 @@ before-more ms i = rw add-one (by ms i)
     by (true ∷ ms) (suc i) = let p = by ms i in omega arith
     by (false ∷ ms) (suc i) = by ms i
 
-pub before-none : (ms : List Bool) → marked-before ms 0 ≡ 0
-before-none [] = refl
-before-none (m ∷ ms) = refl
+pub before_none : (ms : List Bool) → marked_before ms 0 ≡ 0
+before_none [] = refl
+before_none (m ∷ ms) = refl
 
-pub before-few : (ms : List Bool) (i : ℕ) → marked-before ms i ≤ i
-before-few [] i = omega arith
-before-few (m ∷ ms) zero = omega arith
-before-few (true ∷ ms) (suc i) = let p = before-few ms i in omega arith
-before-few (false ∷ ms) (suc i) = let p = before-few ms i in omega arith
+pub before_few : (ms : List Bool) (i : ℕ) → marked_before ms i ≤ i
+before_few [] i = omega arith
+before_few (m ∷ ms) zero = omega arith
+before_few (true ∷ ms) (suc i) = let p = before_few ms i in omega arith
+before_few (false ∷ ms) (suc i) = let p = before_few ms i in omega arith
 
 -- qs began as ps; the first i places have their numbers, and the marks are what they were
 pub record Numbering (ps qs : List Place) (count i : ℕ) : Type 0 where
-  pub counted : count ≡ marked-before (marks-in ps) i
-  pub same : marks-in qs ≡ marks-in ps
-  pub numbers : (k : ℕ) (d : Place) → k < i → getD qs k d .number ≡ renumber (marks-in ps) (suc (suc k))
+  pub counted : count ≡ marked_before (marks_in ps) i
+  pub same : marks_in qs ≡ marks_in ps
+  pub numbers : (k : ℕ) (d : Place) → k < i → (get_or qs k d).number ≡ renumber (marks_in ps) (suc (suc k))
 
-pub numbering-none : (ps : List Place) → Numbering ps ps 0 0
-numbering-none ps = record { counted = sym (before-none (marks-in ps)); same = refl; numbers = λ k d h. absurd (omega arith) }
+pub numbering_none : (ps : List Place) → Numbering ps ps 0 0
+numbering_none ps = record { counted = sym (before_none (marks_in ps)); same = refl; numbers = λ k d h. absurd (omega arith) }
 
-pub numbering-more : (ps qs : List Place) (count i : ℕ) (p d : Place) → i < length qs → p .state ≡ getD qs i d .state → p .number ≡ count + 2 → Numbering ps qs count i →
-    Numbering ps (set qs i p) (count + boolByte (not (eqb (getD qs i d .state) 0))) (i + 1)
-numbering-more ps qs count i p d h e f q =
-    let mark : getD (marks-in ps) i false ≡ is-mark (getD qs i d) = ap (λ ms. getD ms i false) (sym (q .same)) ∙ getD-map is-mark qs i d false h in
+pub numbering_more : (ps qs : List Place) (count i : ℕ) (p d : Place) → i < length qs → p.state ≡ (get_or qs i d).state → p.number ≡ count + 2 → Numbering ps qs count i →
+    Numbering ps (set qs i p) (count + bool_byte (not (eqb (get_or qs i d).state 0))) (i + 1)
+numbering_more ps qs count i p d h e f q =
+    let mark : get_or (marks_in ps) i false ≡ is_mark (get_or qs i d) = ap (λ ms. get_or ms i false) (sym q.same) ∙ get_or-map is_mark qs i d false h in
     record {
-      counted = rw before-more (rw mark (ap (λ n. n + boolByte (is-mark (getD qs i d))) (q .counted)));
+      counted = rw before_more (rw mark (ap (λ n. n + bool_byte (is_mark (get_or qs i d))) q.counted));
       same =
-          map-set is-mark qs i p ∙
-          ap (set (marks-in qs) i) (ap (λ n. not (eqb n 0)) e ∙ sym (getD-map is-mark qs i d false h)) ∙
-          set-getD (marks-in qs) i false ∙ q .same;
-      numbers = λ k b l. each k b l (cases-eq k i);
+          map-set is_mark qs i p ∙
+          ap (set (marks_in qs) i) (ap (λ n. not (eqb n 0)) e ∙ sym (get_or-map is_mark qs i d false h)) ∙
+          set-get_or (marks_in qs) i false ∙ q.same;
+      numbers = λ k b l. each k b l (cases_eq k i);
     }
   where
-    each : (k : ℕ) (b : Place) → k < i + 1 → (k ≡ i) ⊎ (k ≡ i → ⊥) → getD (set qs i p) k b .number ≡ renumber (marks-in ps) (suc (suc k))
-    each k b l (inl s) = rw (s, getD-set-same qs i p b h, f) (let c = q .counted in omega arith)
-    each k b l (inr s) = rw (getD-set-other qs i k p b s) (q .numbers k b (omega arith))
+    each : (k : ℕ) (b : Place) → k < i + 1 → (k ≡ i) ⊎ (k ≡ i → ⊥) → (get_or (set qs i p) k b).number ≡ renumber (marks_in ps) (suc (suc k))
+    each k b l (inl s) = rw (s, get_or-set_same qs i p b h, f) (let c = q.counted in omega arith)
+    each k b l (inr s) = rw (get_or-set_other qs i k p b s) (q.numbers k b (omega arith))
 
-pub numbering-all : (ps qs : List Place) (count i : ℕ) → length ps ≤ i → Numbering ps qs count i → Renumbered ps qs
-numbering-all ps qs count i h q k d l = q .numbers k d (omega arith)
+pub numbering_all : (ps qs : List Place) (count i : ℕ) → length ps ≤ i → Numbering ps qs count i → Renumbered ps qs
+numbering_all ps qs count i h q k d l = q.numbers k d (omega arith)
 
 -- the places have numbers, so a link's is read there
-number-read : (ps : List Place) (k other : ℕ) (p : Place) → k < length ps → number-at ps k other ≡ getD ps k p .number
-number-read [] k other p h = absurd (omega arith)
-number-read (q ∷ ps) zero other p h = refl
-number-read (q ∷ ps) (suc k) other p h = number-read ps k other p (omega arith)
+number_read : (ps : List Place) (k other : ℕ) (p : Place) → k < length ps → number_at ps k other ≡ (get_or ps k p).number
+number_read [] k other p h = absurd (omega arith)
+number_read (q ∷ ps) zero other p h = refl
+number_read (q ∷ ps) (suc k) other p h = number_read ps k other p (omega arith)
 
-number-past : (ps : List Place) (k other : ℕ) → length ps ≤ k → number-at ps k other ≡ other
-number-past [] k other h = refl
-number-past (q ∷ ps) zero other h = absurd (omega arith)
-number-past (q ∷ ps) (suc k) other h = number-past ps k other (omega arith)
+number_past : (ps : List Place) (k other : ℕ) → length ps ≤ k → number_at ps k other ≡ other
+number_past [] k other h = refl
+number_past (q ∷ ps) zero other h = absurd (omega arith)
+number_past (q ∷ ps) (suc k) other h = number_past ps k other (omega arith)
 
-pub noted-low : (ps : List Place) (n : ℕ) → n < 2 → n ≡ noted ps n
-noted-low ps zero h = refl
-noted-low ps (suc zero) h = refl
-noted-low ps (suc (suc k)) h = absurd (omega arith)
+pub noted_low : (ps : List Place) (n : ℕ) → n < 2 → n ≡ noted ps n
+noted_low ps zero h = refl
+noted_low ps (suc zero) h = refl
+noted_low ps (suc (suc k)) h = absurd (omega arith)
 
-pub noted-read : (ps : List Place) (n : ℕ) (p : Place) → 2 ≤ n → n - 2 < length ps → p ≡ getD ps (n - 2) p → p .number ≡ noted ps n
-noted-read ps zero p l h e = absurd (omega arith)
-noted-read ps (suc zero) p l h e = absurd (omega arith)
-noted-read ps (suc (suc k)) p l h e =
+pub noted_read : (ps : List Place) (n : ℕ) (p : Place) → 2 ≤ n → n - 2 < length ps → p ≡ get_or ps (n - 2) p → p.number ≡ noted ps n
+noted_read ps zero p l h e = absurd (omega arith)
+noted_read ps (suc zero) p l h e = absurd (omega arith)
+noted_read ps (suc (suc k)) p l h e =
     let back : suc (suc k) - 2 ≡ k = omega arith in
-    let f : p ≡ getD ps k p = rw back at e in
-    sym (number-read ps k (suc (suc k)) p (omega arith) ∙ ap (λ (q : Place). q .number) (sym f))
+    let f : p ≡ get_or ps k p = rw back at e in
+    sym (number_read ps k (suc (suc k)) p (omega arith) ∙ ap (λ (q : Place). q.number) (sym f))
 
-pub noted-past : (ps : List Place) (n : ℕ) → 2 ≤ n → length ps ≤ n - 2 → n ≡ noted ps n
-noted-past ps zero l h = refl
-noted-past ps (suc zero) l h = refl
-noted-past ps (suc (suc k)) l h = sym (number-past ps k (suc (suc k)) (omega arith))
+pub noted_past : (ps : List Place) (n : ℕ) → 2 ≤ n → length ps ≤ n - 2 → n ≡ noted ps n
+noted_past ps zero l h = refl
+noted_past ps (suc zero) l h = refl
+noted_past ps (suc (suc k)) l h = sym (number_past ps k (suc (suc k)) (omega arith))
 
-pub noted-new : (ps : List Place) (n : ℕ) → Renumbered ps ps → n ≤ length ps + 1 → noted ps n ≡ renumber (marks-in ps) n
-noted-new ps zero r h = refl
-noted-new ps (suc zero) r h = refl
-noted-new ps (suc (suc k)) r h =
+pub noted_new : (ps : List Place) (n : ℕ) → Renumbered ps ps → n ≤ length ps + 1 → noted ps n ≡ renumber (marks_in ps) n
+noted_new ps zero r h = refl
+noted_new ps (suc zero) r h = refl
+noted_new ps (suc (suc k)) r h =
     let d : Place = record { state = 0; list = 0; other = 0; number = 0; count = 0 } in
-    number-read ps k (suc (suc k)) d (omega arith) ∙ r k d (omega arith)
+    number_read ps k (suc (suc k)) d (omega arith) ∙ r k d (omega arith)
 
 -- places that were given their numbers keep them, and their marks
-pub renumbered-now : (ps qs : List Place) → length qs ≡ length ps → marks-in qs ≡ marks-in ps → Renumbered ps qs → Renumbered qs qs
-renumbered-now ps qs l e r k d h = r k d (omega arith) ∙ ap (λ ms. renumber ms (suc (suc k))) (sym e)
+pub renumbered_now : (ps qs : List Place) → length qs ≡ length ps → marks_in qs ≡ marks_in ps → Renumbered ps qs → Renumbered qs qs
+renumbered_now ps qs l e r k d h = r k d (omega arith) ∙ ap (λ ms. renumber ms (suc (suc k))) (sym e)

@@ -1,15 +1,11 @@
 -- What a recall table's functions answer.
-use Prim.Native.Nat.{ℕ}
-use mathlib.Core.List.{List, List·Memᴰ}
-use mathlib.Core.Logic.{_⊎_}
-use mathlib.Core.Path.{_≡_}
-use Rattle·std.specs.declared.option.Option.{Option}
-use Rattle·std.specs.declared.option.Option.the-variants.{Some, None}
-use Rattle·memory·specs.declared.recall.Question.{Question}
+use Rattle.std.specs.Prelude.{◌≡◌, ℕ, ◌⊎◌, List, Some, Option}
+use mathlib.Core.List.{Memᴰ}
+use Rattle.memory.specs.declared.recall.Question.{Question}
 
 -- finitely many questions have an entry
 abbrev pub Finite : (Question → Option ℕ) → Type 0
-Finite table = (qs : List Question) × ((q : Question) (n : ℕ) → table q ≡ Some n → List·Memᴰ q qs)
+Finite table = (qs : List Question) × ((q : Question) (n : ℕ) → table q ≡ Some n → Memᴰ q qs)
 
 -- each entry after is an entry before, or the one told
 abbrev pub Told : (Question → Option ℕ) → Question → ℕ → (Question → Option ℕ) → Type 0

@@ -1,4 +1,6 @@
 // The memory under a store: what a shelf, a recall table and a work space are, whoever builds them.
+#![tactic(auto)]
+
 pub mod marks;
 pub mod reading;
 pub mod recall;

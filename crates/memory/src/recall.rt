@@ -1,10 +1,7 @@
 // A recall table: a finite table from questions to numbers.
-ghost use Prim.Native.Nat.{ℕ};
-ghost use mathlib.Core.Path.{_≡_};
-ghost use Rattle·std.specs.declared.option.Option.{Option};
-ghost use Rattle·std.specs.declared.option.Option.the-variants.{Some, None};
-ghost use Rattle·memory·specs.declared.recall.Question.{Question};
-ghost use Rattle·memory·specs.Tables.{Finite, Told};
+ghost use Rattle.std.specs.Prelude.{◌≡◌, ℕ, Some, None, Option};
+ghost use Rattle.memory.specs.declared.recall.Question.{Question};
+ghost use Rattle.memory.specs.Tables.{Finite, Told};
 
 // What may be recalled: the answer to a join by a rule of two list numbers.
 #[derive(Clone, Copy)]
@@ -21,13 +18,13 @@ pub trait RecallTable {
 
     // The entry for a question, or nothing.
     fn recall(&self, question: Question) -> Option<u32>
-        ensures { λ r. ⌜ r ≡ table (now (self .entry)) question ⌝ };
+        ensures { result ≡ table self.now question };
 
     // Each entry after is an old one or the one told.
     fn tell(&mut self, question: Question, answer: u32)
-        ensures { λ _. ⌜ Told (table (now (self .entry))) question answer (table (now (self .exit))) ⌝ };
+        ensures { Told (table self.old) question answer (table self.new) };
 
     // Empties the table.
     fn forget(&mut self)
-        ensures { λ _. ⌜ ((q : Question) → table (now (self .exit)) q ≡ None) ⌝ };
+        ensures { (q : Question) → table self.new q ≡ None };
 }

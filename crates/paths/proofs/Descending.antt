@@ -1,155 +1,147 @@
 -- The steps down a code's path, and the frames that they leave.
-use mathlib.Core.Path.{_≡_, refl, sym, ap, subst, _∙_}
-use mathlib.Core.Bool.{Bool, true, false, cond}
-use mathlib.Core.List.{List, [], _∷_}
-use mathlib.Core.Logic.{_⊎_, inl, inr, _≢_}
-use Prim.Native.Nat.{ℕ, _+_, _<_, _≤_}
-use native.Mathlib.Omega.{arith}
-use native.Mathlib.Numerals.{add-one}
-use lib.ListN.{length, getD, set, drop}
-use Rattle·std.proofs.shelf.Lists.{getD-set-same, getD-set-other, drop-more, drop-all}
-use Rattle·std.proofs.shelf.Maps.{nth-read}
-use Rattle·std.specs.Options.{mapped}
-use Rattle·std.specs.declared.option.Option.the-variants.{Some, None}
-use Rattle·symbols.specs.Order.{Order, same-symbol}
-use Rattle·ledger.specs.declared.Vertex.{Vertex}
-use Rattle·ledger.specs.Lists.{Codes, none, begun, Proper}
-use Rattle·ledger.specs.Diagrams.{look, parts, Good, Formed, Sound}
-use Rattle·ledger.specs.Ledger.{codes}
-use Rattle·ledger.specs.Operations.{has, make}
-use Rattle·memory.specs.Shelves.{vertex, LinksBelow}
-use Rattle·memory.specs.declared.work.Place.{Place}
-use Rattle·paths·specs.declared.changing.Change.{Change}
-use Rattle·paths·specs.declared.frames.Frame.{Frame}
-use Rattle·paths·specs.declared.frames.Frame.the-variants.{Zero, One}
-use Rattle·paths·specs.Changed.{changed, end-number}
-use Rattle·paths·specs.Framed.{frame-in}
-use Rattle·paths·specs.Waiting.{Makes, no-place, Waits, Step, Stepped}
-use Rattle·paths·proofs.Seeing.{Seen, seen, unseen}
-use Rattle·paths·proofs.Leading.{differs, has-early, empty-end}
-use Rattle·paths·proofs.Along.{make-some, changed-past-end, changed-end-none, changed-end-blank, changed-past, changed-ahead, changed-in, changed-none, changed-blank}
+use Rattle.std.proofs.Common.{◌≡◌, ℕ, ◌+◌, ◌<◌, ◌≤◌, Bool, true, false, cond, ◌≢◌, ◌⊎◌, List, [], ◌∷◌, length, get_or, drop, set, Some, None, sym, refl, ap, ◌∙◌, subst, inl, inr, add-one, arith}
+use Rattle.std.proofs.lemmas.List.{get_or-set_same, get_or-set_other, drop_more, drop_all}
+use Rattle.std.proofs.lemmas.Option.{slice_get_read}
+use Rattle.std.specs.Option.{option_map}
+use Rattle.symbols.specs.Order.{Order, same_symbol}
+use Rattle.ledger.specs.declared.Vertex.{Vertex}
+use Rattle.ledger.specs.Lists.{Codes, none, begun, Proper}
+use Rattle.ledger.specs.Diagrams.{look, parts, Good, Formed, Sound}
+use Rattle.ledger.specs.Ledger.{codes}
+use Rattle.ledger.specs.Operations.{has, make}
+use Rattle.memory.specs.Shelves.{vertex, LinksBelow}
+use Rattle.memory.specs.declared.work.Place.{Place}
+use Rattle.paths.specs.declared.changing.Change.{Change}
+use Rattle.paths.specs.declared.frames.Frame.{Frame}
+use Rattle.paths.specs.declared.frames.Frame.TheVariants.{Zero, One}
+use Rattle.paths.specs.Changed.{changed, end_number}
+use Rattle.paths.specs.Framed.{frame_in}
+use Rattle.paths.specs.Waiting.{Makes, no_place, Waits, Step, Stepped}
+use Rattle.paths.proofs.Seeing.{Seen, seen, unseen}
+use Rattle.paths.proofs.Leading.{differs, has_early, empty_end}
+use Rattle.paths.proofs.Along.{make_some, changed_past_end, changed_end_none, changed_end_blank, changed_past, changed_ahead, changed_in, changed_none, changed_blank}
 
-pub element : {X : Type 0} (xs : List X) (i : ℕ) → i < length xs → (x : X) × (x ≡ getD xs i x)
+pub element : {X : Type 0} (xs : List X) (i : ℕ) → i < length xs → (x : X) × (x ≡ get_or xs i x)
 element [] i h = absurd (omega arith)
 element (y ∷ xs) ℕ.zero h = (y, refl)
 element (y ∷ xs) (ℕ.suc i) h = element xs i (omega arith)
 
-rest : {S : Type 0} (code : List S) (i : ℕ) (x : S) → i < length code → x ≡ getD code i x → drop i code ≡ x ∷ drop (i + 1) code
-rest code i x h e = drop-more code i x h ∙ ap (λ y. y ∷ drop (i + 1) code) (sym e)
+rest : {S : Type 0} (code : List S) (i : ℕ) (x : S) → i < length code → x ≡ get_or code i x → drop i code ≡ x ∷ drop (i + 1) code
+rest code i x h e = drop_more code i x h ∙ ap (λ y. y ∷ drop (i + 1) code) (sym e)
 
 module _ {S : Type 0} (before : S → S → Bool) (order : Order before) (vs : List (Vertex S)) (code : List S) (at spot : ℕ) where
   -- a new vertex, in front of what is there
-  new-vertex : (x : S) → spot < length code → x ≡ getD code spot x →
+  new_vertex : (x : S) → spot < length code → x ≡ get_or code spot x →
       (Sound before vs → Good vs at → has before (codes vs at) (x ∷ drop (spot + 1) code) ≡ false) →
       (Sound before vs → Good vs at → (change : Change) → changed before change (codes vs at) (x ∷ drop (spot + 1) code) ≡ make x (codes vs at) (changed before change none (drop (spot + 1) code))) →
       Step before vs code at spot (One at spot) 0 (spot + 1)
-  new-vertex x h e absent w =
+  new_vertex x h e absent w =
       record {
         inside = omega arith;
         falls = omega arith;
         less = omega arith;
         good = λ s g. omega arith;
         member = λ s g. sym (absent s g) ∙ ap (has before (codes vs at)) (sym (rest code spot x h e));
-        makes = λ s g change. (x, nth-read code (length code) spot x refl h e, g, ap (changed before change (codes vs at)) (rest code spot x h e) ∙ w s g change);
+        makes = λ s g change. (x, slice_get_read code (length code) spot x refl h e, g, ap (changed before change (codes vs at)) (rest code spot x h e) ∙ w s g change);
       }
 
-  module _ (nothing : Formed before vs → None ≡ mapped parts (look vs at)) where
-    pub step-end : length code ≤ spot → Stepped before vs code at spot None
-    step-end h s g = (
-      λ change. by change (unseen before order vs s at (nothing (s .formed)) g) ∙ ap (changed before change (codes vs at)) (sym (drop-all spot code h)),
-      empty-end before order vs s at (nothing (s .formed)) g ∙ ap (has before (codes vs at)) (sym (drop-all spot code h)),
+  module _ (nothing : Formed before vs → None ≡ option_map parts (look vs at)) where
+    pub step_end : length code ≤ spot → Stepped before vs code at spot None
+    step_end h s g = (
+      λ change. by change (unseen before order vs s at (nothing s.formed) g) ∙ ap (changed before change (codes vs at)) (sym (drop_all spot code h)),
+      empty_end before order vs s at (nothing s.formed) g ∙ ap (has before (codes vs at)) (sym (drop_all spot code h)),
     )
       where
-        by : (change : Change) → (at ≡ 0) ⊎ (at ≡ 1) → codes vs (end-number change) ≡ changed before change (codes vs at) []
-        by change (inl p) = sym (ap (λ n. changed before change (codes vs n) []) p ∙ changed-end-none before change vs)
-        by change (inr p) = sym (ap (λ n. changed before change (codes vs n) []) p ∙ changed-end-blank before change vs)
+        by : (change : Change) → (at ≡ 0) ⊎ (at ≡ 1) → codes vs (end_number change) ≡ changed before change (codes vs at) []
+        by change (inl p) = sym (ap (λ n. changed before change (codes vs n) []) p ∙ changed_end_none before change vs)
+        by change (inr p) = sym (ap (λ n. changed before change (codes vs n) []) p ∙ changed_end_blank before change vs)
 
-    pub step-new-end : spot < length code → Step before vs code at spot (One at spot) 0 (spot + 1)
-    step-new-end h =
+    pub step_new_end : spot < length code → Step before vs code at spot (One at spot) 0 (spot + 1)
+    step_new_end h =
         let x = element code spot h in
-        new-vertex (x .0) h (x .1) (λ s g. none-there (x .0) (unseen before order vs s at (nothing (s .formed)) g)) (λ s g change. by (x .0) change (unseen before order vs s at (nothing (s .formed)) g))
+        new_vertex x.0 h x.1 (λ s g. none_there x.0 (unseen before order vs s at (nothing s.formed) g)) (λ s g change. by x.0 change (unseen before order vs s at (nothing s.formed) g))
       where
-        none-there : (x : S) → (at ≡ 0) ⊎ (at ≡ 1) → has before (codes vs at) (x ∷ drop (spot + 1) code) ≡ false
-        none-there x (inl p) = rw p refl
-        none-there x (inr p) = rw p refl
+        none_there : (x : S) → (at ≡ 0) ⊎ (at ≡ 1) → has before (codes vs at) (x ∷ drop (spot + 1) code) ≡ false
+        none_there x (inl p) = rw p refl
+        none_there x (inr p) = rw p refl
 
         by : (x : S) (change : Change) → (at ≡ 0) ⊎ (at ≡ 1) →
             changed before change (codes vs at) (x ∷ drop (spot + 1) code) ≡ make x (codes vs at) (changed before change none (drop (spot + 1) code))
-        by x change (inl p) = rw p (changed-none before change x (drop (spot + 1) code))
-        by x change (inr p) = rw p (changed-blank before change x (drop (spot + 1) code))
+        by x change (inl p) = rw p (changed_none before change x (drop (spot + 1) code))
+        by x change (inr p) = rw p (changed_blank before change x (drop (spot + 1) code))
 
-  module _ (l : S) (z o : ℕ) (below : LinksBelow at (Some (l, z, o))) (there : Formed before vs → Some (l, z, o) ≡ mapped parts (look vs at)) where
+  module _ (l : S) (z o : ℕ) (below : LinksBelow at (Some (l, z, o))) (there : Formed before vs → Some (l, z, o) ≡ option_map parts (look vs at)) where
     see : Sound before vs → Seen before vs at l z o
-    see s = seen before order vs s at l z o (there (s .formed))
+    see s = seen before order vs s at l z o (there s.formed)
 
     -- over the zero link
-    past-vertex : spot ≤ length code → has before (begun l (codes vs z) (codes vs o)) (drop spot code) ≡ has before (codes vs z) (drop spot code) →
+    past_vertex : spot ≤ length code → has before (begun l (codes vs z) (codes vs o)) (drop spot code) ≡ has before (codes vs z) (drop spot code) →
         ((change : Change) → changed before change (begun l (codes vs z) (codes vs o)) (drop spot code) ≡ make l (changed before change (codes vs z) (drop spot code)) (codes vs o)) →
         Step before vs code at spot (Zero at) z spot
-    past-vertex h m w =
+    past_vertex h m w =
         record {
           inside = h;
-          falls = omega (arith, below .1);
-          less = omega (arith, below .1);
-          good = λ s g. see s .zero-good;
-          member = λ s g. sym (ap (λ t. has before t (drop spot code)) (see s .is) ∙ m);
+          falls = omega (arith, below.1);
+          less = omega (arith, below.1);
+          good = λ s g. (see s).zero_good;
+          member = λ s g. sym (ap (λ t. has before t (drop spot code)) (see s).is ∙ m);
           makes = λ s g change.
               let k = see s in
-              (vertex l z o, k .at, ap (λ t. changed before change t (drop spot code)) (k .is) ∙ w change ∙ make-some l (changed before change (codes vs z) (drop spot code)) (codes vs o) (k .proper .1));
+              (vertex l z o, k.at, ap (λ t. changed before change t (drop spot code)) k.is ∙ w change ∙ make_some l (changed before change (codes vs z) (drop spot code)) (codes vs o) k.proper.1);
         }
 
-    pub step-zero-end : spot ≤ length code → length code ≤ spot → Step before vs code at spot (Zero at) z spot
-    step-zero-end h e = past-vertex h (rw (drop-all spot code e) refl) (λ change. rw (drop-all spot code e) (changed-past-end before change l (codes vs z) (codes vs o)))
+    pub step_zero_end : spot ≤ length code → length code ≤ spot → Step before vs code at spot (Zero at) z spot
+    step_zero_end h e = past_vertex h (rw (drop_all spot code e) refl) (λ change. rw (drop_all spot code e) (changed_past_end before change l (codes vs z) (codes vs o)))
 
-    module _ (x : S) (h : spot < length code) (e : x ≡ getD code spot x) where
-      pub step-zero : before l x ≡ true → Step before vs code at spot (Zero at) z spot
-      step-zero b =
-          past-vertex (omega arith) (rw (rest code spot x h e) (ap (λ q. cond q (has before (codes vs o) (drop (spot + 1) code)) (has before (codes vs z) (x ∷ drop (spot + 1) code))) (differs before order l x b)))
-          (λ change. rw (rest code spot x h e) (changed-past before change l (codes vs z) (codes vs o) x (drop (spot + 1) code) b))
+    module _ (x : S) (h : spot < length code) (e : x ≡ get_or code spot x) where
+      pub step_zero : before l x ≡ true → Step before vs code at spot (Zero at) z spot
+      step_zero b =
+          past_vertex (omega arith) (rw (rest code spot x h e) (ap (λ q. cond q (has before (codes vs o) (drop (spot + 1) code)) (has before (codes vs z) (x ∷ drop (spot + 1) code))) (differs before order l x b)))
+          (λ change. rw (rest code spot x h e) (changed_past before change l (codes vs z) (codes vs o) x (drop (spot + 1) code) b))
 
-      pub step-new : before l x ≡ false → before x l ≡ true → Step before vs code at spot (One at spot) 0 (spot + 1)
-      step-new b c =
-          new-vertex x h e (λ s g. ap (λ t. has before t (x ∷ drop (spot + 1) code)) (see s .is) ∙ has-early before order (begun l (codes vs z) (codes vs o)) x (drop (spot + 1) code) (see s .proper) c)
-          (λ s g change. rw (see s .is) (changed-ahead before change l (codes vs z) (codes vs o) x (drop (spot + 1) code) b c))
+      pub step_new : before l x ≡ false → before x l ≡ true → Step before vs code at spot (One at spot) 0 (spot + 1)
+      step_new b c =
+          new_vertex x h e (λ s g. ap (λ t. has before t (x ∷ drop (spot + 1) code)) (see s).is ∙ has_early before order (begun l (codes vs z) (codes vs o)) x (drop (spot + 1) code) (see s).proper c)
+          (λ s g change. rw (see s).is (changed_ahead before change l (codes vs z) (codes vs o) x (drop (spot + 1) code) b c))
 
-      pub step-one : before l x ≡ false → before x l ≡ false → Step before vs code at spot (One z spot) o (spot + 1)
-      step-one b c =
+      pub step_one : before l x ≡ false → before x l ≡ false → Step before vs code at spot (One z spot) o (spot + 1)
+      step_one b c =
           record {
             inside = omega arith;
-            falls = omega (arith, below .2);
-            less = omega (arith, below .2);
-            good = λ s g. see s .one-good;
+            falls = omega (arith, below.2);
+            less = omega (arith, below.2);
+            good = λ s g. (see s).one_good;
             member = λ s g.
-                let same : same-symbol before l x ≡ true = rw (b, c) refl in
-                sym (ap (λ t. has before t (drop spot code)) (see s .is) ∙ ap (has before (begun l (codes vs z) (codes vs o))) (rest code spot x h e) ∙
+                let same : same_symbol before l x ≡ true = rw (b, c) refl in
+                sym (ap (λ t. has before t (drop spot code)) (see s).is ∙ ap (has before (begun l (codes vs z) (codes vs o))) (rest code spot x h e) ∙
                 ap (λ q. cond q (has before (codes vs o) (drop (spot + 1) code)) (has before (codes vs z) (x ∷ drop (spot + 1) code))) same);
             makes = λ s g change.
                 let k = see s in
-                let same : l ≡ x = order .connected l x b c in (
+                let same : l ≡ x = order.connected l x b c in (
                   x,
-                  nth-read code (length code) spot x refl h e,
-                  k .zero-good,
-                  ap (λ t. changed before change t (drop spot code)) (k .is) ∙ ap (changed before change (begun l (codes vs z) (codes vs o))) (rest code spot x h e) ∙
-                      changed-in before change l (codes vs z) (codes vs o) x (drop (spot + 1) code) b c ∙ ap (λ y. make y (codes vs z) (changed before change (codes vs o) (drop (spot + 1) code))) same,
+                  slice_get_read code (length code) spot x refl h e,
+                  k.zero_good,
+                  ap (λ t. changed before change t (drop spot code)) k.is ∙ ap (changed before change (begun l (codes vs z) (codes vs o))) (rest code spot x h e) ∙
+                      changed_in before change l (codes vs z) (codes vs o) x (drop (spot + 1) code) b c ∙ ap (λ y. make y (codes vs z) (changed before change (codes vs o) (drop (spot + 1) code))) same,
                 );
           }
 
 -- a place above the frames is of no matter
-waits-set : {S : Type 0} (before : S → S → Bool) (vs : List (Vertex S)) (code : List S) (work : List Place) (j : ℕ) (p : Place) (k : ℕ) (t whole : Codes S) →
+waits_set : {S : Type 0} (before : S → S → Bool) (vs : List (Vertex S)) (code : List S) (work : List Place) (j : ℕ) (p : Place) (k : ℕ) (t whole : Codes S) →
     k ≤ j → Waits before vs code work k t whole → Waits before vs code (set work j p) k t whole
 unfolding Waits
-waits-set before vs code work j p ℕ.zero t whole h w = w
-waits-set before vs code work j p (ℕ.suc k) t whole h w =
+waits_set before vs code work j p ℕ.zero t whole h w = w
+waits_set before vs code work j p (ℕ.suc k) t whole h w =
     let other : k ≢ j = omega arith in
-    (w .0, subst (λ q. Makes vs code (frame-in q) t (w .0)) (sym (getD-set-other work j k p no-place other)) (w .1), w .2, waits-set before vs code work j p k (w .0) whole (omega arith) (w .3))
+    (w.0, subst (λ q. Makes vs code (frame_in q) t w.0) (sym (get_or-set_other work j k p no_place other)) w.1, w.2, waits_set before vs code work j p k w.0 whole (omega arith) w.3)
 
-pub waits-none : {S : Type 0} (before : S → S → Bool) (vs : List (Vertex S)) (code : List S) (work : List Place) (t : Codes S) → Waits before vs code work 0 t t
+pub waits_none : {S : Type 0} (before : S → S → Bool) (vs : List (Vertex S)) (code : List S) (work : List Place) (t : Codes S) → Waits before vs code work 0 t t
 unfolding Waits
-waits-none before vs code work t = refl
+waits_none before vs code work t = refl
 
-pub waits-push : {S : Type 0} (before : S → S → Bool) (vs : List (Vertex S)) (code : List S) (work : List Place) (k : ℕ) (p : Place) (frame : Frame) (t u whole : Codes S) →
-    k < length work → frame-in p ≡ frame → Makes vs code frame t u → Proper before u → Waits before vs code work k u whole → Waits before vs code (set work k p) (k + 1) t whole
+pub waits_push : {S : Type 0} (before : S → S → Bool) (vs : List (Vertex S)) (code : List S) (work : List Place) (k : ℕ) (p : Place) (frame : Frame) (t u whole : Codes S) →
+    k < length work → frame_in p ≡ frame → Makes vs code frame t u → Proper before u → Waits before vs code work k u whole → Waits before vs code (set work k p) (k + 1) t whole
 unfolding Waits
-waits-push before vs code work k p frame t u whole h e m proper w =
+waits_push before vs code work k p frame t u whole h e m proper w =
     rw add-one
-    (u, subst (λ f. Makes vs code f t u) (sym e ∙ ap frame-in (sym (getD-set-same work k p no-place h))) m, proper, waits-set before vs code work k p k u whole (omega arith) w)
+    (u, subst (λ f. Makes vs code f t u) (sym e ∙ ap frame_in (sym (get_or-set_same work k p no_place h))) m, proper, waits_set before vs code work k p k u whole (omega arith) w)

@@ -1,100 +1,94 @@
 -- The way back up the frames.
-use mathlib.Core.Path.{_≡_, ap, subst, subst⁻¹, _∙_}
-use mathlib.Core.Bool.{Bool, true, false}
-use mathlib.Core.List.{List, [], _∷_}
-use mathlib.Core.Logic.{_⊎_, inl, inr}
-use Prim.Native.Nat.{ℕ, suc, _-_, _<_, _≤_}
-use native.Mathlib.Omega.{arith}
-use lib.ListN.{length, getD, take, length-append}
-use Rattle·std.proofs.shelf.Lists.{take-append-le, take-all}
-use Rattle·std.specs.declared.result.Result.the-variants.{Ok}
-use Rattle·symbols.specs.Order.{Order}
-use Rattle·ledger.specs.declared.Vertex.{Vertex}
-use Rattle·ledger.specs.Lists.{Codes, none, blank, begun, Proper}
-use Rattle·ledger.specs.Diagrams.{Good, Sound}
-use Rattle·ledger.specs.Laid.{Laid}
-use Rattle·ledger.specs.Ledger.{listed, lay, lists, codes, Lays}
-use Rattle·ledger.specs.Operations.{has, make}
-use Rattle·ledger.proofs.Rows.{both-ways, Ledger, known-list, lay-known, lay-adds}
-use Rattle·ledger.proofs.Drawn.{pictured, codes-proper}
-use Rattle·ledger.proofs.Laying.{lay-found, lay-append, laid-known}
-use Rattle·ledger.proofs.Downs.{laid-is}
-use Rattle·memory.specs.declared.shelf.Full.{Full}
-use Rattle·memory.specs.declared.work.Place.{Place}
-use Rattle·paths·specs.declared.changing.Change.{Change}
-use Rattle·paths·specs.declared.frames.Frame.{Frame}
-use Rattle·paths·specs.declared.frames.Frame.the-variants.{Zero, One}
-use Rattle·paths·specs.Changed.{changed, as-it-is}
-use Rattle·paths·specs.Framed.{frame-in}
-use Rattle·paths·specs.Waiting.{Makes, no-place, Waits, Begins}
-use Rattle·paths·proofs.Along.{unchanged}
+use Rattle.std.proofs.Common.{◌≡◌, ℕ, ◌-◌, ◌<◌, ◌≤◌, Bool, true, false, ◌⊎◌, List, [], ◌∷◌, length, get_or, take, Ok, ap, ◌∙◌, subst, inl, inr, arith, length-append}
+use mathlib.Core.Path.{subst⁻¹}
+use Rattle.std.proofs.lemmas.List.{take-append-le, take_all}
+use Rattle.symbols.specs.Order.{Order}
+use Rattle.ledger.specs.declared.Vertex.{Vertex}
+use Rattle.ledger.specs.Lists.{Codes, none, blank, begun, Proper}
+use Rattle.ledger.specs.Diagrams.{Good, Sound}
+use Rattle.ledger.specs.Laid.{Laid}
+use Rattle.ledger.specs.Ledger.{listed, lay, lists, codes, Lays}
+use Rattle.ledger.specs.Operations.{has, make}
+use Rattle.ledger.proofs.Rows.{both_ways, Ledger, known_list, lay_known, lay_adds}
+use Rattle.ledger.proofs.Drawn.{pictured, codes_proper}
+use Rattle.ledger.proofs.Laying.{lay_found, lay_append, laid_known}
+use Rattle.ledger.proofs.Downs.{laid_is}
+use Rattle.memory.specs.declared.shelf.Full.{Full}
+use Rattle.memory.specs.declared.work.Place.{Place}
+use Rattle.paths.specs.declared.changing.Change.{Change}
+use Rattle.paths.specs.declared.frames.Frame.{Frame}
+use Rattle.paths.specs.declared.frames.Frame.TheVariants.{Zero, One}
+use Rattle.paths.specs.Changed.{changed, as_it_is}
+use Rattle.paths.specs.Framed.{frame_in}
+use Rattle.paths.specs.Waiting.{Makes, no_place, Waits, Begins}
+use Rattle.paths.proofs.Along.{unchanged}
 
 module _ {S : Type 0} (before : S → S → Bool) (vs : List (Vertex S)) (code : List S) (work : List Place) where
-  pub waits-pop : (k : ℕ) (t whole : Codes S) → 0 < k → Waits before vs code work k t whole →
-      (u : Codes S) × Makes vs code (frame-in (getD work (k - 1) no-place)) t u × Proper before u × Waits before vs code work (k - 1) u whole
+  pub waits_pop : (k : ℕ) (t whole : Codes S) → 0 < k → Waits before vs code work k t whole →
+      (u : Codes S) × Makes vs code (frame_in (get_or work (k - 1) no_place)) t u × Proper before u × Waits before vs code work (k - 1) u whole
   unfolding Waits
-  waits-pop ℕ.zero t whole h w = absurd (omega arith)
-  waits-pop (ℕ.suc k) t whole h w = let same : k ≡ ℕ.suc k - 1 = omega arith in subst (λ j. (u : Codes S) × Makes vs code (frame-in (getD work j no-place)) t u × Proper before u × Waits before vs code work j u whole) same w
+  waits_pop ℕ.zero t whole h w = absurd (omega arith)
+  waits_pop (ℕ.suc k) t whole h w = let same : k ≡ ℕ.suc k - 1 = omega arith in subst (λ j. (u : Codes S) × Makes vs code (frame_in (get_or work j no_place)) t u × Proper before u × Waits before vs code work j u whole) same w
 
-  pub waits-done : (k : ℕ) (t whole : Codes S) → k ≤ 0 → Waits before vs code work k t whole → t ≡ whole
+  pub waits_done : (k : ℕ) (t whole : Codes S) → k ≤ 0 → Waits before vs code work k t whole → t ≡ whole
   unfolding Waits
-  waits-done ℕ.zero t whole h w = w
-  waits-done (ℕ.suc k) t whole h w = absurd (omega arith)
+  waits_done ℕ.zero t whole h w = w
+  waits_done (ℕ.suc k) t whole h w = absurd (omega arith)
 
 module _ {S : Type 0} (before : S → S → Bool) (order : Order before) where
   -- laying a list down appends what laying its outer list down appends, and then what its inner list does
-  begun-longer : {row : List (Codes S)} → Ledger before row → (a : S) (z o : Codes S) →
+  begun_longer : {row : List (Codes S)} → Ledger before row → (a : S) (z o : Codes S) →
       (length (lay before row z) ≤ length (lay before row (begun a z o))) × (length (lay before (lay before row z) o) ≤ length (lay before row (begun a z o)))
-  begun-longer {row} L a z o = by (both-ways (listed before (lay before (lay before row z) o) (begun a z o)))
+  begun_longer {row} L a z o = by (both_ways (listed before (lay before (lay before row z) o) (begun a z o)))
     where
       inner : length (lay before row z) ≤ length (lay before (lay before row z) o)
-      inner = let r = lay-adds before order (lay before row z) o in let l = ap length (r .1) ∙ length-append (lay before row z) (r .0) in omega arith
+      inner = let r = lay_adds before order (lay before row z) o in let l = ap length r.1 ∙ length-append (lay before row z) r.0 in omega arith
 
       by : (listed before (lay before (lay before row z) o) (begun a z o) ≡ true) ⊎ (listed before (lay before (lay before row z) o) (begun a z o) ≡ false) →
           (length (lay before row z) ≤ length (lay before row (begun a z o))) × (length (lay before (lay before row z) o) ≤ length (lay before row (begun a z o)))
-      by (inl h) = let l = ap length (lay-found before order L a z o h) in (omega (arith, inner), omega arith)
-      by (inr h) = let l = ap length (lay-append before order L a z o h) ∙ length-append (lay before (lay before row z) o) (begun a z o ∷ []) in (omega (arith, inner), omega arith)
+      by (inl h) = let l = ap length (lay_found before order L a z o h) in (omega (arith, inner), omega arith)
+      by (inr h) = let l = ap length (lay_append before order L a z o h) ∙ length-append (lay before (lay before row z) o) (begun a z o ∷ []) in (omega (arith, inner), omega arith)
 
-  makes-longer : (vs : List (Vertex S)) → Sound before vs → (code : List S) (frame : Frame) (t u : Codes S) → Makes vs code frame t u → length (lay before (lists vs) t) ≤ length (lay before (lists vs) u)
-  makes-longer vs s code (Zero n) t u m =
-      let l = begun-longer (pictured before order vs s .ledger) (m .0 .label) t (codes vs (m .0 .one)) .0 in
-      subst⁻¹ (λ x. length (lay before (lists vs) t) ≤ length (lay before (lists vs) x)) (m .2) l
-  makes-longer vs s code (One n spot) t u m = subst⁻¹ (λ x. length (lay before (lists vs) t) ≤ length (lay before (lists vs) x)) (m .3) (by t)
+  makes_longer : (vs : List (Vertex S)) → Sound before vs → (code : List S) (frame : Frame) (t u : Codes S) → Makes vs code frame t u → length (lay before (lists vs) t) ≤ length (lay before (lists vs) u)
+  makes_longer vs s code (Zero n) t u m =
+      let l = (begun_longer (pictured before order vs s).ledger m.0.label t (codes vs m.0.one)).0 in
+      subst⁻¹ (λ x. length (lay before (lists vs) t) ≤ length (lay before (lists vs) x)) m.2 l
+  makes_longer vs s code (One n spot) t u m = subst⁻¹ (λ x. length (lay before (lists vs) t) ≤ length (lay before (lists vs) x)) m.3 (by t)
     where
       there : lay before (lists vs) (codes vs n) ≡ lists vs
-      there = let P = pictured before order vs s in lay-known before order (lists vs) (codes vs n) (known-list before order (lists vs) n (omega (arith, P .long, m .2)))
+      there = let P = pictured before order vs s in lay_known before order (lists vs) (codes vs n) (known_list before order (lists vs) n (omega (arith, P.long, m.2)))
 
-      around : (o : Codes S) → length (lay before (lists vs) o) ≤ length (lay before (lists vs) (begun (m .0) (codes vs n) o))
-      around o = subst (λ r. length (lay before r o) ≤ length (lay before (lists vs) (begun (m .0) (codes vs n) o))) there (begun-longer (pictured before order vs s .ledger) (m .0) (codes vs n) o .1)
+      around : (o : Codes S) → length (lay before (lists vs) o) ≤ length (lay before (lists vs) (begun m.0 (codes vs n) o))
+      around o = subst (λ r. length (lay before r o) ≤ length (lay before (lists vs) (begun m.0 (codes vs n) o))) there (begun_longer (pictured before order vs s).ledger m.0 (codes vs n) o).1
 
-      by : (o : Codes S) → length (lay before (lists vs) o) ≤ length (lay before (lists vs) (make (m .0) (codes vs n) o))
+      by : (o : Codes S) → length (lay before (lists vs) o) ≤ length (lay before (lists vs) (make m.0 (codes vs n) o))
       by none = let l = ap length there in omega arith
       by blank = around blank
       by (begun b y p) = around (begun b y p)
 
-  pub waits-longer : (vs : List (Vertex S)) → Sound before vs → (code : List S) (work : List Place) (k : ℕ) (t whole : Codes S) → Waits before vs code work k t whole →
+  pub waits_longer : (vs : List (Vertex S)) → Sound before vs → (code : List S) (work : List Place) (k : ℕ) (t whole : Codes S) → Waits before vs code work k t whole →
       length (lay before (lists vs) t) ≤ length (lay before (lists vs) whole)
   unfolding Waits
-  waits-longer vs s code work ℕ.zero t whole w = let l = ap (λ x. length (lay before (lists vs) x)) w in omega arith
-  waits-longer vs s code work (ℕ.suc k) t whole w =
-      let one = makes-longer vs s code (frame-in (getD work k no-place)) t (w .0) (w .1) in
-      let all = waits-longer vs s code work k (w .0) whole (w .3) in
+  waits_longer vs s code work ℕ.zero t whole w = let l = ap (λ x. length (lay before (lists vs) x)) w in omega arith
+  waits_longer vs s code work (ℕ.suc k) t whole w =
+      let one = makes_longer vs s code (frame_in (get_or work k no_place)) t w.0 w.1 in
+      let all = waits_longer vs s code work k w.0 whole w.3 in
       omega arith
 
-  pub lays-ok : (vs : List (Vertex S)) (t : Codes S) (ws : List (Vertex S)) (n capacity : ℕ) → Laid before vs t ws n → length ws ≤ capacity → Lays {F = Full} before capacity vs t (Ok n) ws
-  lays-ok vs t ws n capacity l h =
-      let P = pictured before order ws (l .sound) in
-      let row = ap length (l .row) in
-      let r = laid-is before order vs t ws n l in
-      (omega (arith, P .long), r .0, r .1)
+  pub lays_ok : (vs : List (Vertex S)) (t : Codes S) (ws : List (Vertex S)) (n capacity : ℕ) → Laid before vs t ws n → length ws ≤ capacity → Lays {F = Full} before capacity vs t (Ok n) ws
+  lays_ok vs t ws n capacity l h =
+      let P = pictured before order ws l.sound in
+      let row = ap length l.row in
+      let r = laid_is before order vs t ws n l in
+      (omega (arith, P.long), r.0, r.1)
 
   -- a code that is in already, or not in
-  pub lays-as-it-is : (vs : List (Vertex S)) → Sound before vs → (n : ℕ) → Good vs n → (change : Change) (c : List S) (held : Bool) → held ≡ has before (codes vs n) c → as-it-is change held ≡ true →
+  pub lays_as_it_is : (vs : List (Vertex S)) → Sound before vs → (n : ℕ) → Good vs n → (change : Change) (c : List S) (held : Bool) → held ≡ has before (codes vs n) c → as_it_is change held ≡ true →
       (capacity : ℕ) → length vs ≤ capacity → Lays {F = Full} before capacity vs (changed before change (codes vs n) c) (Ok n) vs
-  lays-as-it-is vs s n g change c held e settled capacity h =
+  lays_as_it_is vs s n g change c held e settled capacity h =
       subst⁻¹ (λ t. Lays {F = Full} before capacity vs t (Ok n) vs)
-      (unchanged before order change (codes vs n) c (codes-proper before order vs s n g) (subst (λ b. as-it-is change b ≡ true) e settled))
-      (lays-ok vs (codes vs n) vs n capacity (laid-known before order vs s n g) h)
+      (unchanged before order change (codes vs n) c (codes_proper before order vs s n g) (subst (λ b. as_it_is change b ≡ true) e settled))
+      (lays_ok vs (codes vs n) vs n capacity (laid_known before order vs s n g) h)
 
-pub cut-back : {S : Type 0} (vs ws : List (Vertex S)) (start : ℕ) → start ≡ length vs → Begins vs ws → take start ws ≡ vs
-cut-back vs ws start e b = ap (take start) (b .1) ∙ take-append-le start vs (b .0) (omega arith) ∙ take-all start vs (omega arith)
+pub cut_back : {S : Type 0} (vs ws : List (Vertex S)) (start : ℕ) → start ≡ length vs → Begins vs ws → take start ws ≡ vs
+cut_back vs ws start e b = ap (take start) b.1 ∙ take-append-le start vs b.0 (omega arith) ∙ take_all start vs (omega arith)

@@ -1,13 +1,10 @@
 -- What a walk along a code answers.
-use Prim.Native.Nat.{ℕ}
-use mathlib.Core.Bool.{Bool}
-use mathlib.Core.List.{List}
-use mathlib.Core.Path.{_≡_}
-use Rattle·ledger.specs.declared.Vertex.{Vertex}
-use Rattle·ledger.specs.Lists.{Codes}
-use Rattle·ledger.specs.Diagrams.{Good, Sound}
-use Rattle·ledger.specs.Ledger.{number, lists, codes}
-use Rattle·ledger.specs.Operations.{under}
+use Rattle.std.specs.Prelude.{◌≡◌, ℕ, Bool, List}
+use Rattle.ledger.specs.declared.Vertex.{Vertex}
+use Rattle.ledger.specs.Lists.{Codes}
+use Rattle.ledger.specs.Diagrams.{Good, Sound}
+use Rattle.ledger.specs.Ledger.{number, lists, codes}
+use Rattle.ledger.specs.Operations.{under}
 
 -- what holds of the list with number n, where the vertices are sound and n is good
 abbrev pub WhenGood : {S : Type 0} → (S → S → Bool) → List (Vertex S) → ℕ → (Codes S → Type 0) → Type 0

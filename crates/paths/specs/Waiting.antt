@@ -1,42 +1,33 @@
 -- What frames wait for, on the way back up a code's path.
-use Prim.Native.Nat.{ℕ, suc, _+_, _-_, _<_, _≤_}
-use lib.Dec.{eqb}
-use lib.ListN.{length, getD, drop}
-use mathlib.Core.Bool.{Bool}
-use mathlib.Core.List.{List, _++_}
-use mathlib.Core.Path.{_≡_}
-use Rattle·std.specs.Finite.{nth}
-use Rattle·std.specs.declared.option.Option.{Option}
-use Rattle·std.specs.declared.option.Option.the-variants.{Some, None}
-use Rattle·std.specs.declared.result.Result.{Result}
-use Rattle·std.specs.declared.result.Result.the-variants.{Ok, Err}
-use Rattle·ledger.specs.declared.Vertex.{Vertex}
-use Rattle·ledger.specs.Lists.{Codes, begun, Proper}
-use Rattle·ledger.specs.Diagrams.{look, Good, Sound}
-use Rattle·ledger.specs.Laid.{Laid}
-use Rattle·ledger.specs.Ledger.{lay, lists, codes, Lays}
-use Rattle·ledger.specs.Operations.{has, make}
-use Rattle·memory.specs.declared.work.Place.{Place}
-use Rattle·memory.specs.declared.shelf.Full.{Full}
-use Rattle·paths·specs.declared.changing.Change.{Change}
-use Rattle·paths·specs.declared.frames.Frame.{Frame}
-use Rattle·paths·specs.declared.frames.Frame.the-variants.{Zero, One}
-use Rattle·paths·specs.Changed.{changed, end-number}
-use Rattle·paths·specs.Framed.{frame-in}
+use Rattle.std.specs.Prelude.{◌≡◌, ℕ, ◌+◌, ◌-◌, ◌<◌, ◌≤◌, Bool, List, ◌++◌, length, drop, Some, None, Ok, Err, Option, Result, ◌==◌, slice_index_or}
+use Rattle.std.specs.List.{slice_get}
+use Rattle.ledger.specs.declared.Vertex.{Vertex}
+use Rattle.ledger.specs.Lists.{Codes, begun, Proper}
+use Rattle.ledger.specs.Diagrams.{look, Good, Sound}
+use Rattle.ledger.specs.Laid.{Laid}
+use Rattle.ledger.specs.Ledger.{lay, lists, codes, Lays}
+use Rattle.ledger.specs.Operations.{has, make}
+use Rattle.memory.specs.declared.work.Place.{Place}
+use Rattle.memory.specs.declared.shelf.Full.{Full}
+use Rattle.paths.specs.declared.changing.Change.{Change}
+use Rattle.paths.specs.declared.frames.Frame.{Frame}
+use Rattle.paths.specs.declared.frames.Frame.TheVariants.{Zero, One}
+use Rattle.paths.specs.Changed.{changed, end_number}
+use Rattle.paths.specs.Framed.{frame_in}
 
 -- a frame makes u of the list t that it waits for
 abbrev pub Makes : {S : Type 0} → List (Vertex S) → List S → Frame → Codes S → Codes S → Type 0
-Makes {S} vs code (Zero n) t u = (v : Vertex S) × (look vs n ≡ Some v) × (u ≡ begun (v .label) t (codes vs (v .one)))
-Makes {S} vs code (One n spot) t u = (s : S) × (nth code spot ≡ Some s) × Good vs n × (u ≡ make s (codes vs n) t)
+Makes {S} vs code (Zero n) t u = (v : Vertex S) × (look vs n ≡ Some v) × (u ≡ begun v.label t (codes vs v.one))
+Makes {S} vs code (One n spot) t u = (s : S) × (slice_get code spot ≡ Some s) × Good vs n × (u ≡ make s (codes vs n) t)
 
-abbrev pub no-place : Place
-no-place = record { state = 0; list = 0; other = 0; number = 0; count = 0 }
+abbrev pub no_place : Place
+no_place = record { state = 0; list = 0; other = 0; number = 0; count = 0 }
 
 -- the first k places of the work space make `whole` of the list t, the last of them first
 unfoldable pub Waits : {S : Type 0} → (S → S → Bool) → List (Vertex S) → List S → List Place → ℕ → Codes S → Codes S → Type 0
 Waits before vs code work ℕ.zero t whole = t ≡ whole
 Waits {S} before vs code work (ℕ.suc k) t whole =
-    (u : Codes S) × Makes vs code (frame-in (getD work k no-place)) t u × Proper before u × Waits before vs code work k u whole
+    (u : Codes S) × Makes vs code (frame_in (slice_index_or work k no_place)) t u × Proper before u × Waits before vs code work k u whole
 
 -- a step down from `at`: the frame, where to go on and the symbols passed by then
 pub record Step {S : Type 0} (before : S → S → Bool) (vs : List (Vertex S)) (code : List S) (at spot : ℕ) (frame : Frame) (next then : ℕ) : Type 0 where
@@ -51,8 +42,8 @@ pub record Step {S : Type 0} (before : S → S → Bool) (vs : List (Vertex S)) 
 abbrev pub Stepped : {S : Type 0} → (S → S → Bool) → List (Vertex S) → List S → ℕ → ℕ → Option (Frame × ℕ × ℕ) → Type 0
 Stepped before vs code at spot None =
     Sound before vs → Good vs at →
-    ((change : Change) → codes vs (end-number change) ≡ changed before change (codes vs at) (drop spot code)) × (eqb at 1 ≡ has before (codes vs at) (drop spot code))
-Stepped before vs code at spot (Some s) = Step before vs code at spot (s .0) (s .1) (s .2)
+    ((change : Change) → codes vs (end_number change) ≡ changed before change (codes vs at) (drop spot code)) × ((at == 1) ≡ has before (codes vs at) (drop spot code))
+Stepped before vs code at spot (Some s) = Step before vs code at spot s.0 s.1 s.2
 
 -- vertices vs come first
 abbrev pub Begins : {S : Type 0} → List (Vertex S) → List (Vertex S) → Type 0

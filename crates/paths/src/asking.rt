@@ -1,17 +1,17 @@
 // What a code leads to. One read of a vertex for each step of its path; no work space. On any memory each walk ends,
 // since `read_vertex` holds links below the vertex's own number.
-ghost use mathlib.Core.List.{[], _∷_};
-ghost use mathlib.Core.Path.{_≡_};
-ghost use Rattle·ledger.specs.Ledger.{codes};
-ghost use Rattle·ledger.specs.Operations.{has, under};
-ghost use Rattle·paths·specs.Asked.{Leads, Numbers, WhenGood};
+ghost use Rattle.std.specs.Prelude.{◌≡◌, [], ◌∷◌};
+ghost use Rattle.ledger.specs.Ledger.{codes};
+ghost use Rattle.ledger.specs.Operations.{has, under};
+ghost use Rattle.paths.specs.Asked.{Leads, Numbers, WhenGood};
+
 use memory::reading::read_vertex;
 use memory::shelf::Shelf;
 use symbols::Symbol;
 
 // What remains after one symbol: zero links lead past earlier labels, and the one link of the symbol's vertex on.
 fn after_symbol<S: Symbol, B: Shelf<S>>(shelf: &B, list: u32, symbol: S) -> u32
-    ensures { λ r. ⌜ WhenGood (S·Symbol .before) (B·Shelf .vertices (now (shelf .entry))) list (λ t. Leads (S·Symbol .before) (B·Shelf .vertices (now (shelf .entry))) t (symbol ∷ []) r) ⌝ }
+    ensures { WhenGood S.Symbol.before (B.Shelf.vertices shelf.now) list (λ t. Leads S.Symbol.before (B.Shelf.vertices shelf.now) t (symbol ∷ []) result) }
 {
     let mut at = list;
     while let Some((label, zero, one)) = read_vertex(shelf, at) {
@@ -28,8 +28,8 @@ fn after_symbol<S: Symbol, B: Shelf<S>>(shelf: &B, list: u32, symbol: S) -> u32
 
 // Where the code's path ends; the code is in the list if the empty code is in what it leads to.
 fn reach<S: Symbol, B: Shelf<S>>(shelf: &B, list: u32, code: &[S]) -> u32
-    ensures number { λ r. ⌜ WhenGood (S·Symbol .before) (B·Shelf .vertices (now (shelf .entry))) list (λ t. Numbers (S·Symbol .before) (B·Shelf .vertices (now (shelf .entry))) (under (S·Symbol .before) t (now (code .entry))) r) ⌝ }
-    ensures member { λ r. ⌜ WhenGood (S·Symbol .before) (B·Shelf .vertices (now (shelf .entry))) list (λ t. has (S·Symbol .before) (codes (B·Shelf .vertices (now (shelf .entry))) r) [] ≡ has (S·Symbol .before) t (now (code .entry))) ⌝ }
+    ensures number { WhenGood S.Symbol.before (B.Shelf.vertices shelf.now) list (λ t. Numbers S.Symbol.before (B.Shelf.vertices shelf.now) (under S.Symbol.before t code.now) result) }
+    ensures member { WhenGood S.Symbol.before (B.Shelf.vertices shelf.now) list (λ t. has S.Symbol.before (codes (B.Shelf.vertices shelf.now) result) [] ≡ has S.Symbol.before t code.now) }
 {
     let mut at = list;
     for symbol in code {
@@ -40,7 +40,7 @@ fn reach<S: Symbol, B: Shelf<S>>(shelf: &B, list: u32, code: &[S]) -> u32
 
 // Whether the empty code is in a list: whether its zero links end at terminal 1.
 fn has_empty<S: Symbol, B: Shelf<S>>(shelf: &B, list: u32) -> bool
-    ensures { λ r. ⌜ WhenGood (S·Symbol .before) (B·Shelf .vertices (now (shelf .entry))) list (λ t. r ≡ has (S·Symbol .before) t []) ⌝ }
+    ensures { WhenGood S.Symbol.before (B.Shelf.vertices shelf.now) list (λ t. result ≡ has S.Symbol.before t []) }
 {
     let mut at = list;
     while let Some((_, zero, _)) = read_vertex(shelf, at) {
@@ -51,7 +51,7 @@ fn has_empty<S: Symbol, B: Shelf<S>>(shelf: &B, list: u32) -> bool
 
 // Whether the code is in the list.
 pub fn holds<S: Symbol, B: Shelf<S>>(shelf: &B, list: u32, code: &[S]) -> bool
-    ensures value { λ r. ⌜ WhenGood (S·Symbol .before) (B·Shelf .vertices (now (shelf .entry))) list (λ t. r ≡ has (S·Symbol .before) t (now (code .entry))) ⌝ }
+    ensures value { WhenGood S.Symbol.before (B.Shelf.vertices shelf.now) list (λ t. result ≡ has S.Symbol.before t code.now) }
 {
     let at = reach(shelf, list, code);
     has_empty(shelf, at)
@@ -59,7 +59,7 @@ pub fn holds<S: Symbol, B: Shelf<S>>(shelf: &B, list: u32, code: &[S]) -> bool
 
 // The list of what remains of the codes that begin with this one, this one taken off.
 pub fn under<S: Symbol, B: Shelf<S>>(shelf: &B, list: u32, code: &[S]) -> u32
-    ensures value { λ r. ⌜ WhenGood (S·Symbol .before) (B·Shelf .vertices (now (shelf .entry))) list (λ t. Numbers (S·Symbol .before) (B·Shelf .vertices (now (shelf .entry))) (under (S·Symbol .before) t (now (code .entry))) r) ⌝ }
+    ensures value { WhenGood S.Symbol.before (B.Shelf.vertices shelf.now) list (λ t. Numbers S.Symbol.before (B.Shelf.vertices shelf.now) (under S.Symbol.before t code.now) result) }
 {
     reach(shelf, list, code)
 }

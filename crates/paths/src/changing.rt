@@ -3,18 +3,16 @@
 // inner lists, so what is appended is what laying the list down appends, in its order. Down, a step costs one read of a
 // vertex; back up, at most one read and one search of the shelf. Whether there is anything to change is
 // known at the bottom, before the shelf is touched.
-ghost use lib.ListN.{length};
-ghost use mathlib.Core.Path.{_≡_};
-ghost use Prim.Native.Nat.{_+_, _≤_};
-ghost use Rattle·ledger.specs.Ledger.{codes, Lays};
-ghost use Rattle·ledger.specs.Operations.{added, has, removed};
-ghost use Rattle·paths·specs.Asked.{WhenGood};
-ghost use Rattle·paths·specs.Changed.{changed, end-number, as-it-is};
-ghost use Rattle·paths·specs.Waiting.{Stepped, Waits, Resumed, Rebuilt};
+ghost use Rattle.std.specs.Prelude.{◌≡◌, ◌+◌, ◌≤◌, length};
+ghost use Rattle.ledger.specs.Ledger.{codes, Lays};
+ghost use Rattle.ledger.specs.Operations.{added, has, removed};
+ghost use Rattle.paths.specs.Asked.{WhenGood};
+ghost use Rattle.paths.specs.Changed.{changed, end_number, as_it_is};
+ghost use Rattle.paths.specs.Waiting.{Stepped, Waits, Resumed, Rebuilt};
+
 use crate::frames::Frame;
 use memory::reading::read_vertex;
-use memory::shelf::Full;
-use memory::shelf::Shelf;
+use memory::shelf::{Full, Shelf};
 use memory::work::Place;
 use symbols::Symbol;
 
@@ -27,7 +25,7 @@ enum Change {
 
 // Whether a code that is in the list, or not, leaves nothing to change.
 fn settled(change: Change, held: bool) -> bool
-    ensures { λ r. ⌜ r ≡ as-it-is change held ⌝ }
+    ensures { result ≡ as_it_is change held }
 {
     match change {
         Change::Add => held,
@@ -37,7 +35,7 @@ fn settled(change: Change, held: bool) -> bool
 
 // The terminal at the end of the code's path after the change.
 fn end_of(change: Change) -> u32
-    ensures { λ r. ⌜ r ≡ end-number change ⌝ }
+    ensures { result ≡ end_number change }
 {
     match change {
         Change::Add => 1,
@@ -53,8 +51,8 @@ fn step<S: Symbol, B: Shelf<S>>(
     code: &[S],
     spot: usize,
 ) -> Option<(Frame, u32, usize)>
-    requires { ⌜ spot ≤ length (now code) ⌝ }
-    ensures { λ r. ⌜ Stepped (S·Symbol .before) (B·Shelf .vertices (now (shelf .entry))) (now (code .entry)) at spot r ⌝ }
+    requires { spot ≤ length code.now }
+    ensures { Stepped S.Symbol.before (B.Shelf.vertices shelf.now) code.now at spot result }
 {
     let Some((label, zero, one)) = read_vertex(shelf, at) else {
         if spot >= code.len() {
@@ -83,10 +81,10 @@ struct Descent {
 
 // Walks down the code's path, a frame for each step. A path that leaves the vertices ends at terminal 0.
 fn descend<S: Symbol, B: Shelf<S>>(shelf: &B, list: u32, code: &[S], work: &mut [Place]) -> Descent
-    requires { ⌜ list + length (now code) ≤ length (now work) ⌝ }
-    ensures within { λ r. ⌜ r .height ≤ length (now (work .exit)) ⌝ }
-    ensures member { λ r. ⌜ WhenGood (S·Symbol .before) (B·Shelf .vertices (now (shelf .entry))) list (λ t. r .held ≡ has (S·Symbol .before) t (now (code .entry))) ⌝ }
-    ensures waits { λ r. ⌜ WhenGood (S·Symbol .before) (B·Shelf .vertices (now (shelf .entry))) list (λ t. (change : Change) → Waits (S·Symbol .before) (B·Shelf .vertices (now (shelf .entry))) (now (code .entry)) (now (work .exit)) (r .height) (codes (B·Shelf .vertices (now (shelf .entry))) (end-number change)) (changed (S·Symbol .before) change t (now (code .entry)))) ⌝ }
+    requires { list + length code.now ≤ length work.old }
+    ensures within { result.height ≤ length work.new }
+    ensures member { WhenGood S.Symbol.before (B.Shelf.vertices shelf.now) list (λ t. result.held ≡ has S.Symbol.before t code.now) }
+    ensures waits { WhenGood S.Symbol.before (B.Shelf.vertices shelf.now) list (λ t. (change : Change) → Waits S.Symbol.before (B.Shelf.vertices shelf.now) code.now work.new result.height (codes (B.Shelf.vertices shelf.now) (end_number change)) (changed S.Symbol.before change t code.now)) }
 {
     let mut height = 0;
     let mut at = list;
@@ -112,9 +110,9 @@ fn resume<S: Symbol, B: Shelf<S>>(
     frame: Frame,
     number: u32,
 ) -> Result<u32, Full>
-    ensures answer { λ r. ⌜ (B·Shelf .ready (now (shelf .entry)) → Resumed (S·Symbol .before) (B·Shelf .capacity (now (shelf .entry))) (now (code .entry)) frame (B·Shelf .vertices (now (shelf .entry))) number r (B·Shelf .vertices (now (shelf .exit)))) ⌝ }
-    ensures ready { λ _. ⌜ (B·Shelf .ready (now (shelf .entry)) → B·Shelf .ready (now (shelf .exit))) ⌝ }
-    ensures size { λ _. ⌜ B·Shelf .capacity (now (shelf .exit)) ≡ B·Shelf .capacity (now (shelf .entry)) ⌝ }
+    ensures answer { B.Shelf.ready shelf.old → Resumed S.Symbol.before (B.Shelf.capacity shelf.old) code.now frame (B.Shelf.vertices shelf.old) number result (B.Shelf.vertices shelf.new) }
+    ensures ready { B.Shelf.ready shelf.old → B.Shelf.ready shelf.new }
+    ensures size { B.Shelf.capacity shelf.new ≡ B.Shelf.capacity shelf.old }
 {
     match frame {
         Frame::Zero { vertex } => {
@@ -143,10 +141,10 @@ fn rebuild<S: Symbol, B: Shelf<S>>(
     height: usize,
     end: u32,
 ) -> Result<u32, Full>
-    requires { ⌜ height ≤ length (now work) ⌝ }
-    ensures answer { λ r. ⌜ (B·Shelf .ready (now (shelf .entry)) → Rebuilt (S·Symbol .before) (B·Shelf .capacity (now (shelf .entry))) (now (code .entry)) (now (work .entry)) height (B·Shelf .vertices (now (shelf .entry))) end r (B·Shelf .vertices (now (shelf .exit)))) ⌝ }
-    ensures ready { λ _. ⌜ (B·Shelf .ready (now (shelf .entry)) → B·Shelf .ready (now (shelf .exit))) ⌝ }
-    ensures size { λ _. ⌜ B·Shelf .capacity (now (shelf .exit)) ≡ B·Shelf .capacity (now (shelf .entry)) ⌝ }
+    requires { height ≤ length work.now }
+    ensures answer { B.Shelf.ready shelf.old → Rebuilt S.Symbol.before (B.Shelf.capacity shelf.old) code.now work.now height (B.Shelf.vertices shelf.old) end result (B.Shelf.vertices shelf.new) }
+    ensures ready { B.Shelf.ready shelf.old → B.Shelf.ready shelf.new }
+    ensures size { B.Shelf.capacity shelf.new ≡ B.Shelf.capacity shelf.old }
 {
     let start = shelf.used();
     let mut number = end;
@@ -172,10 +170,10 @@ fn alter<S: Symbol, B: Shelf<S>>(
     code: &[S],
     work: &mut [Place],
 ) -> Result<u32, Full>
-    requires { ⌜ list + length (now code) ≤ length (now work) ⌝ }
-    ensures answer { λ r. ⌜ (B·Shelf .ready (now (shelf .entry)) → WhenGood (S·Symbol .before) (B·Shelf .vertices (now (shelf .entry))) list (λ t. Lays (S·Symbol .before) (B·Shelf .capacity (now (shelf .entry))) (B·Shelf .vertices (now (shelf .entry))) (changed (S·Symbol .before) change t (now (code .entry))) r (B·Shelf .vertices (now (shelf .exit))))) ⌝ }
-    ensures ready { λ _. ⌜ (B·Shelf .ready (now (shelf .entry)) → B·Shelf .ready (now (shelf .exit))) ⌝ }
-    ensures size { λ _. ⌜ B·Shelf .capacity (now (shelf .exit)) ≡ B·Shelf .capacity (now (shelf .entry)) ⌝ }
+    requires { list + length code.now ≤ length work.old }
+    ensures answer { B.Shelf.ready shelf.old → WhenGood S.Symbol.before (B.Shelf.vertices shelf.old) list (λ t. Lays S.Symbol.before (B.Shelf.capacity shelf.old) (B.Shelf.vertices shelf.old) (changed S.Symbol.before change t code.now) result (B.Shelf.vertices shelf.new)) }
+    ensures ready { B.Shelf.ready shelf.old → B.Shelf.ready shelf.new }
+    ensures size { B.Shelf.capacity shelf.new ≡ B.Shelf.capacity shelf.old }
 {
     let Descent { height, held } = descend(shelf, list, code, work);
     if settled(change, held) {
@@ -191,10 +189,10 @@ pub fn add<S: Symbol, B: Shelf<S>>(
     code: &[S],
     work: &mut [Place],
 ) -> Result<u32, Full>
-    requires { ⌜ list + length (now code) ≤ length (now work) ⌝ }
-    ensures answer { λ r. ⌜ (B·Shelf .ready (now (shelf .entry)) → WhenGood (S·Symbol .before) (B·Shelf .vertices (now (shelf .entry))) list (λ t. Lays (S·Symbol .before) (B·Shelf .capacity (now (shelf .entry))) (B·Shelf .vertices (now (shelf .entry))) (added (S·Symbol .before) t (now (code .entry))) r (B·Shelf .vertices (now (shelf .exit))))) ⌝ }
-    ensures ready { λ _. ⌜ (B·Shelf .ready (now (shelf .entry)) → B·Shelf .ready (now (shelf .exit))) ⌝ }
-    ensures size { λ _. ⌜ B·Shelf .capacity (now (shelf .exit)) ≡ B·Shelf .capacity (now (shelf .entry)) ⌝ }
+    requires { list + length code.now ≤ length work.old }
+    ensures answer { B.Shelf.ready shelf.old → WhenGood S.Symbol.before (B.Shelf.vertices shelf.old) list (λ t. Lays S.Symbol.before (B.Shelf.capacity shelf.old) (B.Shelf.vertices shelf.old) (added S.Symbol.before t code.now) result (B.Shelf.vertices shelf.new)) }
+    ensures ready { B.Shelf.ready shelf.old → B.Shelf.ready shelf.new }
+    ensures size { B.Shelf.capacity shelf.new ≡ B.Shelf.capacity shelf.old }
 {
     alter(shelf, Change::Add, list, code, work)
 }
@@ -206,10 +204,10 @@ pub fn remove<S: Symbol, B: Shelf<S>>(
     code: &[S],
     work: &mut [Place],
 ) -> Result<u32, Full>
-    requires { ⌜ list + length (now code) ≤ length (now work) ⌝ }
-    ensures answer { λ r. ⌜ (B·Shelf .ready (now (shelf .entry)) → WhenGood (S·Symbol .before) (B·Shelf .vertices (now (shelf .entry))) list (λ t. Lays (S·Symbol .before) (B·Shelf .capacity (now (shelf .entry))) (B·Shelf .vertices (now (shelf .entry))) (removed (S·Symbol .before) t (now (code .entry))) r (B·Shelf .vertices (now (shelf .exit))))) ⌝ }
-    ensures ready { λ _. ⌜ (B·Shelf .ready (now (shelf .entry)) → B·Shelf .ready (now (shelf .exit))) ⌝ }
-    ensures size { λ _. ⌜ B·Shelf .capacity (now (shelf .exit)) ≡ B·Shelf .capacity (now (shelf .entry)) ⌝ }
+    requires { list + length code.now ≤ length work.old }
+    ensures answer { B.Shelf.ready shelf.old → WhenGood S.Symbol.before (B.Shelf.vertices shelf.old) list (λ t. Lays S.Symbol.before (B.Shelf.capacity shelf.old) (B.Shelf.vertices shelf.old) (removed S.Symbol.before t code.now) result (B.Shelf.vertices shelf.new)) }
+    ensures ready { B.Shelf.ready shelf.old → B.Shelf.ready shelf.new }
+    ensures size { B.Shelf.capacity shelf.new ≡ B.Shelf.capacity shelf.old }
 {
     alter(shelf, Change::Remove, list, code, work)
 }

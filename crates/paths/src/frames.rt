@@ -1,6 +1,7 @@
 // The frames of a walk down a code's path, as places of work space hold them.
-ghost use mathlib.Core.Path.{_≡_};
-ghost use Rattle·paths·specs.Framed.{frame-in};
+ghost use Rattle.std.specs.Prelude.{◌≡◌};
+ghost use Rattle.paths.specs.Framed.{frame_in};
+
 use memory::work::Place;
 
 // What waits for the number of a changed list.
@@ -14,7 +15,7 @@ pub enum Frame {
 
 impl Frame {
     pub fn to_place(self) -> Place
-        ensures { λ r. ⌜ frame-in r ≡ self ⌝ }
+        ensures { frame_in result ≡ self }
     {
         match self {
             Frame::Zero { vertex } => Place {
@@ -35,7 +36,7 @@ impl Frame {
     }
 
     pub fn from_place(place: Place) -> Frame
-        ensures { λ r. ⌜ r ≡ frame-in place ⌝ }
+        ensures { result ≡ frame_in place }
     {
         if place.state == 0 {
             Frame::Zero { vertex: place.list }

@@ -4,15 +4,15 @@
 // goes over them all. The table counts the turns in which it filled a slot. A full slot has its turn, and the record at
 // that turn's place has a note of the slot's number; what lay in memory before is never an entry, since the notes of
 // the turns so far are the table's own. With no turns there is no entry, so to forget is to count from 0 again.
-ghost use denote.Ref.{now};
-ghost use mathlib.Core.Path.{_≡_};
-ghost use Rattle·std.specs.declared.option.Option.the-variants.{None};
-ghost use Rattle·memory.specs.declared.recall.Question.{Question};
-ghost use Rattle·memory.specs.Tables.{Told};
-ghost use Rattle·recall_tables·specs.Finite.{held-finite, none-finite};
-ghost use Rattle·recall_tables·specs.Slots.{held, Recalls, Spares};
-use memory::recall::Question;
-use memory::recall::RecallTable;
+#![tactic(auto)]
+
+ghost use Rattle.std.specs.Prelude.{◌≡◌, None};
+ghost use Rattle.memory.specs.declared.recall.Question.{Question};
+ghost use Rattle.memory.specs.Tables.{Told};
+ghost use Rattle.recall_tables.specs.Finite.{held_finite, none_finite};
+ghost use Rattle.recall_tables.specs.Slots.{held, Recalls, Spares};
+
+use memory::recall::{Question, RecallTable};
 
 mod slots;
 
@@ -20,10 +20,10 @@ mod slots;
 #[derive(Clone, Copy)]
 pub struct Blank;
 
-pub impl RecallTable for Blank as BlankRecallTable {
+impl RecallTable for Blank {
     ghost table = { λ _ _. None };
 
-    ghost finite = { λ _. none-finite };
+    ghost finite = { λ _. none_finite };
 
     fn recall(&self, question: Question) -> Option<u32> {
         None
@@ -54,17 +54,17 @@ pub struct SlotTable<'a> {
 impl<'a> SlotTable<'a> {
     // An empty table in these slots, whatever they hold.
     pub fn new(slots: &'a mut [Slot]) -> SlotTable<'a>
-        ensures memory { λ r. ⌜ now (r .slots) ≡ now (slots .entry) ⌝ }
-        ensures empty { λ r. ⌜ ((q : Question) → held (now (r .slots)) (r .turns) q ≡ None) ⌝ }
+        ensures memory { result.slots.now ≡ slots.old }
+        ensures empty { (q : Question) → held result.slots.now result.turns q ≡ None }
     {
         SlotTable { slots, turns: 0 }
     }
 }
 
-pub impl<'a> RecallTable for SlotTable<'a> as SlotTableRecallTable {
-    ghost table = { λ t. held (now (t .slots)) (t .turns) };
+impl<'a> RecallTable for SlotTable<'a> {
+    ghost table = { λ t. held t.slots.now t.turns };
 
-    ghost finite = { λ t. held-finite (now (t .slots)) (t .turns) };
+    ghost finite = { λ t. held_finite t.slots.now t.turns };
 
     fn recall(&self, question: Question) -> Option<u32> {
         slots::recall(self.slots, self.turns, question)
@@ -73,7 +73,7 @@ pub impl<'a> RecallTable for SlotTable<'a> as SlotTableRecallTable {
     // Beyond what every table promises: with a slot at all the entry is there then, and while there are fewer turns than
     // slots the entries in other slots stay.
     fn tell(&mut self, question: Question, answer: u32)
-        ensures { λ _. ⌜ Told (held (now (now (self .entry) .slots)) (now (self .entry) .turns)) question answer (held (now (now (self .exit) .slots)) (now (self .exit) .turns)) ⌝ ∗ ⌜ Recalls (now (now (self .entry) .slots)) question answer (held (now (now (self .exit) .slots)) (now (self .exit) .turns)) ⌝ ∗ ⌜ Spares (now (now (self .entry) .slots)) (now (self .entry) .turns) question (held (now (now (self .exit) .slots)) (now (self .exit) .turns)) ⌝ }
+        ensures { (Told (held self.old.slots.now self.old.turns) question answer (held self.new.slots.now self.new.turns)) × ((Recalls self.old.slots.now question answer (held self.new.slots.now self.new.turns)) × (Spares self.old.slots.now self.old.turns question (held self.new.slots.now self.new.turns))) }
     {
         let turns = self.turns;
         self.turns = slots::tell(self.slots, turns, question, answer);

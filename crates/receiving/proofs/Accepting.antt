@@ -1,90 +1,82 @@
 -- What is accepted was written.
-use mathlib.Core.Path.{_≡_, refl, sym}
-use mathlib.Core.Bool.{Bool}
-use mathlib.Core.List.{List, []}
-use mathlib.Core.Logic.{inl, inr}
-use Prim.Native.Nat.{ℕ, zero, suc, _+_, _*_, _≤_}
-use native.Mathlib.Omega.{arith}
-use lib.ListN.{length}
-use Rattle·std.specs.declared.result.Result.{Result}
-use Rattle·std.specs.declared.result.Result.the-variants.{Ok, Err}
-use Rattle·symbols.specs.Order.{Order}
-use Rattle·symbols.specs.Wire.{Travel}
-use Rattle·symbols.specs.declared.SymbolFault.{SymbolFault}
-use Rattle·ledger.specs.declared.Vertex.{Vertex}
-use Rattle·ledger.specs.Lists.{Codes, Proper}
-use Rattle·ledger.specs.Diagrams.{Formed}
-use Rattle·ledger.specs.Ledger.{codes, Lays}
-use Rattle·ledger.proofs.Forming.{formed-proper}
-use Rattle·wire.specs.Records.{travel, records-in}
-use Rattle·wire.specs.Written.{written}
-use Rattle·wire.specs.declared.head.Head.{Head}
-use Rattle·wire.specs.declared.faults.RecordFault.{RecordFault}
-use Rattle·wire.specs.declared.faults.FaultyRecord.{FaultyRecord}
-use Rattle·wire.specs.declared.faults.ReceiveFault.{ReceiveFault}
-use Rattle·receiving·specs.Checks.{head-checked, record-checked}
-use Rattle·receiving·specs.Lengths.{Short}
-use Rattle·receiving·specs.Receives.{AsWritten, Ends, ByRecords, ByHead, Receives}
-use Rattle·receiving·specs.Statements.{OnlyWritten}
-use Rattle·receiving·proofs.Records.{err-ok, ok-same, Reading, reading-none, reading-stop, reading-more, reading-all}
-use Rattle·receiving·proofs.Dispatched.{head-right, head-few}
+use Rattle.std.proofs.Common.{◌≡◌, ℕ, zero, suc, ◌+◌, ◌*◌, ◌≤◌, Bool, List, [], length, Ok, Err, Result, sym, refl, inl, inr, arith}
+use Rattle.symbols.specs.Order.{Order}
+use Rattle.symbols.specs.Wire.{Travel}
+use Rattle.symbols.specs.declared.SymbolFault.{SymbolFault}
+use Rattle.ledger.specs.declared.Vertex.{Vertex}
+use Rattle.ledger.specs.Lists.{Codes, Proper}
+use Rattle.ledger.specs.Diagrams.{Formed}
+use Rattle.ledger.specs.Ledger.{codes, Lays}
+use Rattle.ledger.proofs.Forming.{formed_proper}
+use Rattle.wire.specs.Records.{travel, records_in}
+use Rattle.wire.specs.Written.{written}
+use Rattle.wire.specs.declared.head.Head.{Head}
+use Rattle.wire.specs.declared.faults.RecordFault.{RecordFault}
+use Rattle.wire.specs.declared.faults.FaultyRecord.{FaultyRecord}
+use Rattle.wire.specs.declared.faults.ReceiveFault.{ReceiveFault}
+use Rattle.receiving.specs.Checks.{head_checked, record_checked}
+use Rattle.receiving.specs.Lengths.{Short}
+use Rattle.receiving.specs.Receives.{AsWritten, Ends, ByRecords, ByHead, Receives}
+use Rattle.receiving.specs.Statements.{OnlyWritten}
+use Rattle.receiving.proofs.Records.{err_ok, ok_same, Reading, reading_none, reading_stop, reading_more, reading_all}
+use Rattle.receiving.proofs.Dispatched.{head_right, head_few}
 
 module _ {S : Type 0} (before : S → S → Bool) (order : Order before) where
   -- records that read as vertices were read one by one
-  read-on : (t : Travel S) (bs : List ℕ) (n : ℕ) (ds : List (Vertex S)) → records-in before t n [] bs ≡ Ok ds → (place : ℕ) → place ≤ n → Reading before order t bs n place
-  read-on t bs n ds ok zero h = reading-none before order t bs n
-  read-on t bs n ds ok (suc place) h = by (record-checked before t bs place) refl (read-on t bs n ds ok place (omega arith))
+  read_on : (t : Travel S) (bs : List ℕ) (n : ℕ) (ds : List (Vertex S)) → records_in before t n [] bs ≡ Ok ds → (place : ℕ) → place ≤ n → Reading before order t bs n place
+  read_on t bs n ds ok zero h = reading_none before order t bs n
+  read_on t bs n ds ok (suc place) h = by (record_checked before t bs place) refl (read_on t bs n ds ok place (omega arith))
     where
       next : Reading before order t bs n (place + 1) → Reading before order t bs n (suc place)
       next R = let e : place + 1 ≡ suc place = omega arith in rw e at R
 
-      by : (r : Result (Vertex S) RecordFault) → record-checked before t bs place ≡ r → Reading before order t bs n place → Reading before order t bs n (suc place)
-      by (Ok v) e R = next (reading-more before order t bs n place (omega arith) R v (sym e))
-      by (Err f) e R = absurd (err-ok (reading-stop before order t bs n place (omega arith) R f (sym e)) ok)
+      by : (r : Result (Vertex S) RecordFault) → record_checked before t bs place ≡ r → Reading before order t bs n place → Reading before order t bs n (suc place)
+      by (Ok v) e R = next (reading_more before order t bs n place (omega arith) R v (sym e))
+      by (Err f) e R = absurd (err_ok (reading_stop before order t bs n place (omega arith) R f (sym e)) ok)
 
-  pub read-formed : (t : Travel S) (bs : List ℕ) (n : ℕ) (ds : List (Vertex S)) → records-in before t n [] bs ≡ Ok ds → length bs ≡ n * (t .width + 8) → Formed before ds
-  read-formed t bs n ds ok long =
-      let r = reading-all before order t bs n n refl long (read-on t bs n ds ok n (omega arith)) in
-      let e : r .0 ≡ ds = ok-same (r .1) ok in
-      rw e at (r .3)
+  pub read_formed : (t : Travel S) (bs : List ℕ) (n : ℕ) (ds : List (Vertex S)) → records_in before t n [] bs ≡ Ok ds → length bs ≡ n * (t.width + 8) → Formed before ds
+  read_formed t bs n ds ok long =
+      let r = reading_all before order t bs n n refl long (read_on t bs n ds ok n (omega arith)) in
+      let e : r.0 ≡ ds = ok_same r.1 ok in
+      rw e at r.3
 
   module _ (kind width : ℕ) (bytes : S → List ℕ) (reads : List ℕ → Result S SymbolFault) where
-    pub only-written : OnlyWritten before (travel kind width bytes reads)
-    only-written capacity vs bs n ws = by-head (head-checked kind width capacity bs) refl
+    pub only_written : OnlyWritten before (travel kind width bytes reads)
+    only_written capacity vs bs n ws = by_head (head_checked kind width capacity bs) refl
       where
-        ends : (h : Head) (rest : List ℕ) → head-checked kind width capacity bs ≡ Ok (h, rest) → (ds : List (Vertex S)) → records-in before (travel kind width bytes reads) (h .count) [] rest ≡ Ok ds →
-            Ends before capacity vs (AsWritten before (travel kind width bytes reads) bs ds (h .root)) (codes ds (h .root)) (Ok n) ws → (u : Codes S) × Proper before u × Short u × (bs ≡ written before (travel kind width bytes reads) u) × Lays {F = ReceiveFault} before capacity vs u (Ok n) ws
-        ends h rest p ds q (inl x) = absurd (err-ok (x .1 .0) refl)
-        ends h rest p ds q (inr (inl x)) = absurd (err-ok (x .2 .0) refl)
+        ends : (h : Head) (rest : List ℕ) → head_checked kind width capacity bs ≡ Ok (h, rest) → (ds : List (Vertex S)) → records_in before (travel kind width bytes reads) h.count [] rest ≡ Ok ds →
+            Ends before capacity vs (AsWritten before (travel kind width bytes reads) bs ds h.root) (codes ds h.root) (Ok n) ws → (u : Codes S) × Proper before u × Short u × (bs ≡ written before (travel kind width bytes reads) u) × Lays {F = ReceiveFault} before capacity vs u (Ok n) ws
+        ends h rest p ds q (inl x) = absurd (err_ok x.1.0 refl)
+        ends h rest p ds q (inr (inl x)) = absurd (err_ok x.2.0 refl)
         ends h rest p ds q (inr (inr x)) =
-            let few = head-few kind width capacity bs h rest (head-right kind width capacity bs h rest p) in
-            let f = read-formed (travel kind width bytes reads) rest (h .count) ds q (few .1) in
-            (codes ds (h .root), formed-proper before order ds f (h .root) (x .0 .0), x .1, x .0 .1, x .2)
+            let few = head_few kind width capacity bs h rest (head_right kind width capacity bs h rest p) in
+            let f = read_formed (travel kind width bytes reads) rest h.count ds q few.1 in
+            (codes ds h.root, formed_proper before order ds f h.root x.0.0, x.1, x.0.1, x.2)
 
-        by-records : (h : Head) (rest : List ℕ) → head-checked kind width capacity bs ≡ Ok (h, rest) → (y : Result (List (Vertex S)) FaultyRecord) → records-in before (travel kind width bytes reads) (h .count) [] rest ≡ y →
-            ByRecords before (travel kind width bytes reads) capacity vs bs (h .root) y (Ok n) ws → (u : Codes S) × Proper before u × Short u × (bs ≡ written before (travel kind width bytes reads) u) × Lays {F = ReceiveFault} before capacity vs u (Ok n) ws
-        by-records h rest p (Err e) q x = absurd (err-ok (x .0) refl)
-        by-records h rest p (Ok ds) q x = ends h rest p ds q x
+        by_records : (h : Head) (rest : List ℕ) → head_checked kind width capacity bs ≡ Ok (h, rest) → (y : Result (List (Vertex S)) FaultyRecord) → records_in before (travel kind width bytes reads) h.count [] rest ≡ y →
+            ByRecords before (travel kind width bytes reads) capacity vs bs h.root y (Ok n) ws → (u : Codes S) × Proper before u × Short u × (bs ≡ written before (travel kind width bytes reads) u) × Lays {F = ReceiveFault} before capacity vs u (Ok n) ws
+        by_records h rest p (Err e) q x = absurd (err_ok x.0 refl)
+        by_records h rest p (Ok ds) q x = ends h rest p ds q x
 
-        by-head : (y : Result (Head × List ℕ) ReceiveFault) → head-checked kind width capacity bs ≡ y →
+        by_head : (y : Result (Head × List ℕ) ReceiveFault) → head_checked kind width capacity bs ≡ y →
             ByHead before (travel kind width bytes reads) capacity vs bs y (Ok n) ws → (u : Codes S) × Proper before u × Short u × (bs ≡ written before (travel kind width bytes reads) u) × Lays {F = ReceiveFault} before capacity vs u (Ok n) ws
-        by-head (Err e) p x = absurd (err-ok (x .0) refl)
-        by-head (Ok h) p x = by-records (h .0) (h .1) p (records-in before (travel kind width bytes reads) (h .0 .count) [] (h .1)) refl x
+        by_head (Err e) p x = absurd (err_ok x.0 refl)
+        by_head (Ok h) p x = by_records h.0 h.1 p (records_in before (travel kind width bytes reads) h.0.count [] h.1) refl x
 
 -- a refusal leaves the vertices
 module _ {S : Type 0} (before : S → S → Bool) (t : Travel S) (capacity : ℕ) (vs : List (Vertex S)) (bs : List ℕ) (e : ReceiveFault) (ws : List (Vertex S)) where
-  ends-same : (right : Type 0) (u : Codes S) → Ends before capacity vs right u (Err e) ws → ws ≡ vs
-  ends-same right u (inl x) = x .1 .1
-  ends-same right u (inr (inl x)) = x .2 .1
-  ends-same right u (inr (inr x)) = x .2 .1
+  ends_same : (right : Type 0) (u : Codes S) → Ends before capacity vs right u (Err e) ws → ws ≡ vs
+  ends_same right u (inl x) = x.1.1
+  ends_same right u (inr (inl x)) = x.2.1
+  ends_same right u (inr (inr x)) = x.2.1
 
-  records-same : (root : ℕ) (y : Result (List (Vertex S)) FaultyRecord) → ByRecords before t capacity vs bs root y (Err e) ws → ws ≡ vs
-  records-same root (Err f) x = x .1
-  records-same root (Ok ds) x = ends-same _ _ x
+  records_same : (root : ℕ) (y : Result (List (Vertex S)) FaultyRecord) → ByRecords before t capacity vs bs root y (Err e) ws → ws ≡ vs
+  records_same root (Err f) x = x.1
+  records_same root (Ok ds) x = ends_same _ _ x
 
-  head-same : (y : Result (Head × List ℕ) ReceiveFault) → ByHead before t capacity vs bs y (Err e) ws → ws ≡ vs
-  head-same (Err f) x = x .1
-  head-same (Ok h) x = records-same (h .0 .root) (records-in before t (h .0 .count) [] (h .1)) x
+  head_same : (y : Result (Head × List ℕ) ReceiveFault) → ByHead before t capacity vs bs y (Err e) ws → ws ≡ vs
+  head_same (Err f) x = x.1
+  head_same (Ok h) x = records_same h.0.root (records_in before t h.0.count [] h.1) x
 
-  pub refused-same : Receives before t capacity vs bs (Err e) ws → ws ≡ vs
-  refused-same = head-same (head-checked (t .kind) (t .width) capacity bs)
+  pub refused_same : Receives before t capacity vs bs (Err e) ws → ws ≡ vs
+  refused_same = head_same (head_checked t.kind t.width capacity bs)

@@ -1,85 +1,79 @@
 -- The longest code of a list, from its outer and its inner list.
-use mathlib.Core.Path.{_≡_, refl, sym, _∙_, ap, subst, subst⁻¹}
-use mathlib.Core.Bool.{Bool}
-use mathlib.Core.List.{List, [], _∷_}
-use mathlib.Core.Logic.{_↔_, _⊎_, inl, inr}
-use Prim.Native.Nat.{ℕ, zero, suc, _+_, _-_, _<_, _≤_, min, max}
-use native.Mathlib.Omega.{arith}
-use lib.ListN.{length, getD, set}
-use Rattle·std.proofs.shelf.Lists.{getD-set-same, getD-set-other}
-use Rattle·std.proofs.shelf.Tests.{cases-eq, cases-lt}
-use Rattle·std.specs.declared.option.Option.the-variants.{Some}
-use Rattle·symbols.specs.Order.{Order}
-use Rattle·ledger.specs.declared.Vertex.{Vertex}
-use Rattle·ledger.specs.Lists.{Codes, none, blank, begun, Member, Some-code, Proper}
-use Rattle·ledger.specs.Diagrams.{look, Formed}
-use Rattle·ledger.specs.Ledger.{codes}
-use Rattle·ledger.proofs.Draws.{codes-formed}
-use Rattle·memory.specs.declared.work.Place.{Place}
-use Rattle·receiving·specs.Lengths.{Short, Long, longest, length-in, Measured}
-use Rattle·receiving·specs.Walks.{vacant}
+use Rattle.std.proofs.Common.{◌≡◌, ℕ, zero, suc, ◌+◌, ◌<◌, ◌≤◌, min, max, Bool, ◌⊎◌, ◌↔◌, List, [], ◌∷◌, length, get_or, set, Some, sym, refl, ap, ◌∙◌, inl, inr, arith}
+use mathlib.Core.Path.{subst⁻¹}
+use Rattle.std.proofs.lemmas.List.{get_or-set_same, get_or-set_other}
+use Rattle.std.proofs.lemmas.Bool.{cases_eq, cases_lt}
+use Rattle.symbols.specs.Order.{Order}
+use Rattle.ledger.specs.declared.Vertex.{Vertex}
+use Rattle.ledger.specs.Lists.{Codes, none, blank, begun, Member, SomeCode, Proper}
+use Rattle.ledger.specs.Diagrams.{look, Formed}
+use Rattle.ledger.specs.Ledger.{codes}
+use Rattle.ledger.proofs.Draws.{codes_formed}
+use Rattle.memory.specs.declared.work.Place.{Place}
+use Rattle.receiving.specs.Lengths.{Short, Long, longest, length_in, Measured}
+use Rattle.receiving.specs.Walks.{vacant}
 
 module _ {S : Type 0} where
-  pub no-longer : (t : Codes S) (c : List S) → Member t c → length c ≤ longest t
-  no-longer none c m = absurd m
-  no-longer blank c m = let e = ap length m in omega arith
-  no-longer (begun a z o) c (inl m) = let h = no-longer z c m in omega arith
-  no-longer (begun a z o) c (inr m) = let h = no-longer o (m .0) (m .2) in let e = ap length (m .1) in omega arith
+  pub no_longer : (t : Codes S) (c : List S) → Member t c → length c ≤ longest t
+  no_longer none c m = absurd m
+  no_longer blank c m = let e = ap length m in omega arith
+  no_longer (begun a z o) c (inl m) = let h = no_longer z c m in omega arith
+  no_longer (begun a z o) c (inr m) = let h = no_longer o m.0 m.2 in let e = ap length m.1 in omega arith
 
-  some-length : (t : Codes S) → 0 < longest t → Some-code t
-  some-length none h = absurd (omega arith)
-  some-length blank h = tt
-  some-length (begun a z o) h = tt
+  some_length : (t : Codes S) → 0 < longest t → SomeCode t
+  some_length none h = absurd (omega arith)
+  some_length blank h = tt
+  some_length (begun a z o) h = tt
 
-  attained : (before : S → S → Bool) (t : Codes S) → Proper before t → Some-code t → (c : List S) × Member t c × (longest t ≤ length c)
+  attained : (before : S → S → Bool) (t : Codes S) → Proper before t → SomeCode t → (c : List S) × Member t c × (longest t ≤ length c)
   attained before none p s = absurd s
   attained before blank p s = ([], refl, omega arith)
-  attained before (begun a z o) p s = by (cases-lt (suc (longest o)) (longest z)) (attained before z (p .2)) (attained before o (p .3) (p .1))
+  attained before (begun a z o) p s = by (cases_lt (suc (longest o)) (longest z)) (attained before z p.2) (attained before o p.3 p.1)
     where
-      by : (suc (longest o) < longest z) ⊎ (longest z ≤ suc (longest o)) → (Some-code z → (c : List S) × Member z c × (longest z ≤ length c)) → (c : List S) × Member o c × (longest o ≤ length c) →
+      by : (suc (longest o) < longest z) ⊎ (longest z ≤ suc (longest o)) → (SomeCode z → (c : List S) × Member z c × (longest z ≤ length c)) → (c : List S) × Member o c × (longest o ≤ length c) →
           (c : List S) × Member (begun a z o) c × (longest (begun a z o) ≤ length c)
       by (inl h) outer inner =
-          let r = outer (some-length z (omega arith)) in
-          let l = r .2 in
-          (r .0, inl (r .1), omega arith)
-      by (inr h) outer inner = let l = inner .2 in (a ∷ inner .0, inr (inner .0, refl, inner .1), omega arith)
+          let r = outer (some_length z (omega arith)) in
+          let l = r.2 in
+          (r.0, inl r.1, omega arith)
+      by (inr h) outer inner = let l = inner.2 in (a ∷ inner.0, inr (inner.0, refl, inner.1), omega arith)
 
-  pub long-is : (before : S → S → Bool) (t : Codes S) → Proper before t → (64 < longest t) ↔ Long t
-  long-is before t p = (
-    λ h. let r = attained before t p (some-length t (omega arith)) in let l = r .2 in (r .0, r .1, omega arith),
-    λ r. let h = no-longer t (r .0) (r .1) in let l = r .2 in omega arith,
+  pub long_is : (before : S → S → Bool) (t : Codes S) → Proper before t → (64 < longest t) ↔ Long t
+  long_is before t p = (
+    λ h. let r = attained before t p (some_length t (omega arith)) in let l = r.2 in (r.0, r.1, omega arith),
+    λ r. let h = no_longer t r.0 r.1 in let l = r.2 in omega arith,
   )
 
-  pub short-is : (t : Codes S) → (64 < longest t → ⊥) → Short t
-  short-is t h c m = let l = no-longer t c m in by l (cases-lt 64 (longest t))
+  pub short_is : (t : Codes S) → (64 < longest t → ⊥) → Short t
+  short_is t h c m = let l = no_longer t c m in by l (cases_lt 64 (longest t))
     where
       by : length c ≤ longest t → (64 < longest t) ⊎ (longest t ≤ 64) → length c ≤ 64
       by l (inl g) = absurd (h g)
       by l (inr g) = omega arith
 
   -- what the places hold of a link
-  pub held : (ds : List (Vertex S)) (k n : ℕ) (work : List Place) → Measured ds k work → n < k + 2 → length-in work n ≡ min (longest (codes ds n)) 65
+  pub held : (ds : List (Vertex S)) (k n : ℕ) (work : List Place) → Measured ds k work → n < k + 2 → length_in work n ≡ min (longest (codes ds n)) 65
   held ds k zero work m h = refl
   held ds k (suc zero) work m h = refl
   held ds k (suc (suc j)) work m h = m j (omega arith)
 
-  pub measured-one : (before : S → S → Bool) (order : Order before) (ds : List (Vertex S)) → Formed before ds → (k : ℕ) (v : Vertex S) (work : List Place) (outer inner r : ℕ) → look ds (k + 2) ≡ Some v → Measured ds k work →
-      outer ≡ length-in work (v .zero) → inner ≡ length-in work (v .one) → r ≡ max outer (min (inner + 1) 65) → r ≡ min (longest (codes ds (suc (suc k)))) 65
-  measured-one before order ds f k v work outer inner r at m p q e =
+  pub measured_one : (before : S → S → Bool) (order : Order before) (ds : List (Vertex S)) → Formed before ds → (k : ℕ) (v : Vertex S) (work : List Place) (outer inner r : ℕ) → look ds (k + 2) ≡ Some v → Measured ds k work →
+      outer ≡ length_in work v.zero → inner ≡ length_in work v.one → r ≡ max outer (min (inner + 1) 65) → r ≡ min (longest (codes ds (suc (suc k)))) 65
+  measured_one before order ds f k v work outer inner r at m p q e =
       let n : k + 2 ≡ suc (suc k) = omega arith in
-      let at′ : look ds (suc (suc k)) ≡ Some v = ap (look ds) (sym n) ∙ at in
-      let lz = f .zero-below (suc (suc k)) v at′ in
-      let lo = f .one-below (suc (suc k)) v at′ in
-      let z : outer ≡ min (longest (codes ds (v .zero))) 65 = p ∙ held ds k (v .zero) work m (omega arith) in
-      let o : inner ≡ min (longest (codes ds (v .one))) 65 = q ∙ held ds k (v .one) work m (omega arith) in
-      let is : longest (codes ds (suc (suc k))) ≡ max (longest (codes ds (v .zero))) (suc (longest (codes ds (v .one)))) = ap longest (codes-formed before order ds f (suc (suc k)) v at′) in
+      let at' : look ds (suc (suc k)) ≡ Some v = ap (look ds) (sym n) ∙ at in
+      let lz = f.zero_below (suc (suc k)) v at' in
+      let lo = f.one_below (suc (suc k)) v at' in
+      let z : outer ≡ min (longest (codes ds v.zero)) 65 = p ∙ held ds k v.zero work m (omega arith) in
+      let o : inner ≡ min (longest (codes ds v.one)) 65 = q ∙ held ds k v.one work m (omega arith) in
+      let is : longest (codes ds (suc (suc k))) ≡ max (longest (codes ds v.zero)) (suc (longest (codes ds v.one))) = ap longest (codes_formed before order ds f (suc (suc k)) v at') in
       omega arith
 
-  pub measured-more : (ds : List (Vertex S)) (k : ℕ) (work : List Place) (p : Place) → k < length work → Measured ds k work → p .number ≡ min (longest (codes ds (suc (suc k)))) 65 → Measured ds (k + 1) (set work k p)
-  measured-more ds k work p h m e j l = by (cases-eq j k)
+  pub measured_more : (ds : List (Vertex S)) (k : ℕ) (work : List Place) (p : Place) → k < length work → Measured ds k work → p.number ≡ min (longest (codes ds (suc (suc k)))) 65 → Measured ds (k + 1) (set work k p)
+  measured_more ds k work p h m e j l = by (cases_eq j k)
     where
-      by : (j ≡ k) ⊎ (j ≡ k → ⊥) → getD (set work k p) j vacant .number ≡ min (longest (codes ds (suc (suc j)))) 65
+      by : (j ≡ k) ⊎ (j ≡ k → ⊥) → (get_or (set work k p) j vacant).number ≡ min (longest (codes ds (suc (suc j)))) 65
       by (inl s) =
-          subst⁻¹ (λ x. getD (set work k p) x vacant .number ≡ min (longest (codes ds (suc (suc x)))) 65) s
-          (ap (λ (q : Place). q .number) (getD-set-same work k p vacant h) ∙ e)
-      by (inr s) = ap (λ (q : Place). q .number) (getD-set-other work k j p vacant s) ∙ m j (omega arith)
+          subst⁻¹ (λ x. (get_or (set work k p) x vacant).number ≡ min (longest (codes ds (suc (suc x)))) 65) s
+          (ap (λ (q : Place). q.number) (get_or-set_same work k p vacant h) ∙ e)
+      by (inr s) = ap (λ (q : Place). q.number) (get_or-set_other work k j p vacant s) ∙ m j (omega arith)

@@ -1,196 +1,184 @@
 -- What was written reads back, and is taken.
-use mathlib.Core.Path.{_≡_, refl, sym, _∙_, ap, subst, subst⁻¹}
-use mathlib.Core.Bool.{Bool, true, false, cond, _||_}
-use mathlib.Core.List.{List, [], _∷_, _++_, append-assoc, append-nil}
-use mathlib.Core.Logic.{_⊎_, inl, inr, _≢_}
-use Prim.Native.Nat.{ℕ, suc, _+_, _-_, _*_, _/_, _%_, _^_, _<_, _≤_}
-use native.Mathlib.Nat.{suc-mul, zero-mul, mul-le-mul, mod-eq-of-lt}
-use native.Mathlib.Omega.{arith}
-use lib.Dec.{leb, eqb}
-use lib.ListN.{length, getD, take, drop, length-append}
-use lib.Seq.{take-at, drop-at, getD-append-add}
-use Rattle·std.proofs.shelf.Tests.{cases-bool, leb-true, leb-false, le-leb, lt-leb, eq-eqb, ne-eqb, or-from, cond-true, cond-false}
-use Rattle·std.specs.Finite.{nth}
-use Rattle·std.specs.declared.option.Option.{Option}
-use Rattle·std.specs.declared.option.Option.the-variants.{Some, None}
-use Rattle·std.specs.declared.result.Result.{Result}
-use Rattle·std.specs.declared.result.Result.the-variants.{Ok, Err}
-use Rattle·symbols.specs.Order.{Order}
-use Rattle·symbols.specs.Wire.{Travel, WireLaws}
-use Rattle·symbols.specs.declared.SymbolFault.{SymbolFault}
-use Rattle·ledger.specs.declared.Vertex.{Vertex}
-use Rattle·ledger.specs.Diagrams.{look, Formed, Good}
-use Rattle·ledger.specs.Dispatch.{be4, records, dispatch}
-use Rattle·ledger.specs.Lists.{Codes, Proper}
-use Rattle·ledger.specs.Ledger.{Lays, fresh}
-use Rattle·ledger.proofs.Drawn.{look-front}
-use Rattle·ledger.proofs.Attaining.{written}
-use Rattle·wire.specs.Heads.{word-of, word, head-of}
-use Rattle·wire.specs.Records.{travel, linked, record-of, comes-before, checked, record-in, onward, records-in}
-use Rattle·wire.specs.declared.head.Head.{Head}
-use Rattle·wire.specs.declared.faults.RecordFault.the-variants.{LinkNotBelow, OneLinkZero, LabelNotAfter}
-use Rattle·wire.specs.declared.faults.ReceiveFault.{ReceiveFault}
-use Rattle·wire.specs.declared.faults.ReceiveFault.the-variants.{BadLength, OtherKind, ShelfFull}
-use Rattle·receiving·specs.Checks.{unless, head-checked}
-use Rattle·receiving·specs.Lengths.{Short}
-use Rattle·receiving·specs.Receives.{Ends, ByRecords, ByHead, OnlyFull, Receives}
-use Rattle·receiving·specs.Statements.{Takes, TakesWritten}
+use Rattle.std.proofs.Common.{◌≡◌, ℕ, suc, ◌+◌, ◌-◌, ◌*◌, ◌/◌, ◌%◌, ◌^◌, ◌<◌, ◌≤◌, Bool, true, false, cond, ◌||◌, eqb, leb, ◌≢◌, ◌⊎◌, List, [], ◌∷◌, ◌++◌, length, get_or, take, drop, Some, None, Ok, Err, Option, Result, sym, refl, ap, ◌∙◌, subst, inl, inr, append_assoc, append-nil, mod-eq_of_lt, suc-mul, mul-le-mul, zero-mul, arith, length-append, take_at, get_or-append-add, drop_at}
+use mathlib.Core.Path.{subst⁻¹}
+use Rattle.std.proofs.lemmas.Bool.{cases_Bool, leb-true, leb-false, le-leb, lt-leb, eq-eqb, ne_eqb, or_from, cond-true, cond-false}
+use Rattle.std.specs.List.{slice_get}
+use Rattle.symbols.specs.Order.{Order}
+use Rattle.symbols.specs.Wire.{Travel, WireLaws}
+use Rattle.symbols.specs.declared.SymbolFault.{SymbolFault}
+use Rattle.ledger.specs.declared.Vertex.{Vertex}
+use Rattle.ledger.specs.Diagrams.{look, Formed, Good}
+use Rattle.ledger.specs.Dispatch.{be4, records, dispatch}
+use Rattle.ledger.specs.Lists.{Codes, Proper}
+use Rattle.ledger.specs.Ledger.{Lays, fresh}
+use Rattle.ledger.proofs.Drawn.{look_front}
+use Rattle.ledger.proofs.Attaining.{written}
+use Rattle.wire.specs.Heads.{word_of, word, head_of}
+use Rattle.wire.specs.Records.{travel, linked, record_of, comes_before, checked, record_in, onward, records_in}
+use Rattle.wire.specs.declared.head.Head.{Head}
+use Rattle.wire.specs.declared.faults.RecordFault.TheVariants.{LinkNotBelow, OneLinkZero, LabelNotAfter}
+use Rattle.wire.specs.declared.faults.ReceiveFault.{ReceiveFault}
+use Rattle.wire.specs.declared.faults.ReceiveFault.TheVariants.{BadLength, OtherKind, ShelfFull}
+use Rattle.receiving.specs.Checks.{unless, head_checked}
+use Rattle.receiving.specs.Lengths.{Short}
+use Rattle.receiving.specs.Receives.{Ends, ByRecords, ByHead, OnlyFull, Receives}
+use Rattle.receiving.specs.Statements.{Takes, TakesWritten}
 
 -- a number from its four bytes, by the quotients between them
-from-quotients : (n a b c : ℕ) → a ≡ n / 256 → b ≡ n / 65536 → c ≡ n / 16777216 → n < 2 ^ 32 → word-of (c % 256) (b % 256) (a % 256) (n % 256) ≡ n
-from-quotients n a b c ea eb ec h =
+from_quotients : (n a b c : ℕ) → a ≡ n / 256 → b ≡ n / 65536 → c ≡ n / 16777216 → n < 2 ^ 32 → word_of (c % 256) (b % 256) (a % 256) (n % 256) ≡ n
+from_quotients n a b c ea eb ec h =
     let below : c < 256 = omega arith in
-    let by-a : b ≡ a / 256 = omega arith in
-    let by-b : c ≡ b / 256 = omega arith in
-    let p : c % 256 ≡ c = mod-eq-of-lt below in
+    let by_a : b ≡ a / 256 = omega arith in
+    let by_b : c ≡ b / 256 = omega arith in
+    let p : c % 256 ≡ c = mod-eq_of_lt below in
     let q : b ≡ c * 256 + b % 256 = omega arith in
     let r : a ≡ b * 256 + a % 256 = omega arith in
     let s : n ≡ a * 256 + n % 256 = omega arith in
     glue (c % 256) (b % 256) (a % 256) (n % 256) c b a n p q r s
   where
-    glue : (w x y z c b a n : ℕ) → w ≡ c → b ≡ c * 256 + x → a ≡ b * 256 + y → n ≡ a * 256 + z → word-of w x y z ≡ n
+    glue : (w x y z c b a n : ℕ) → w ≡ c → b ≡ c * 256 + x → a ≡ b * 256 + y → n ≡ a * 256 + z → word_of w x y z ≡ n
     glue w x y z c b a n p q r s = omega arith
 
-pub word-be4 : (n : ℕ) → n < 2 ^ 32 → word-of (n / 16777216 % 256) (n / 65536 % 256) (n / 256 % 256) (n % 256) ≡ n
-word-be4 n h = from-quotients n (n / 256) (n / 65536) (n / 16777216) refl refl refl h
+pub word_be4 : (n : ℕ) → n < 2 ^ 32 → word_of (n / 16777216 % 256) (n / 65536 % 256) (n / 256 % 256) (n % 256) ≡ n
+word_be4 n h = from_quotients n (n / 256) (n / 65536) (n / 16777216) refl refl refl h
 
 -- a number behind others
-word-at : (p q : List ℕ) (w i : ℕ) → length p ≡ w → word (p ++ q) (w + i) ≡ word q i
-word-at p q w i e =
-    let a : getD (p ++ q) (w + i) 0 ≡ getD q i 0 = at i in
+word_at : (p q : List ℕ) (w i : ℕ) → length p ≡ w → word (p ++ q) (w + i) ≡ word q i
+word_at p q w i e =
+    let a : get_or (p ++ q) (w + i) 0 ≡ get_or q i 0 = at i in
     let q1 : w + i + 1 ≡ w + (i + 1) = omega arith in
     let q2 : w + i + 2 ≡ w + (i + 2) = omega arith in
     let q3 : w + i + 3 ≡ w + (i + 3) = omega arith in
-    let b : getD (p ++ q) (w + i + 1) 0 ≡ getD q (i + 1) 0 = ap (λ n. getD (p ++ q) n 0) q1 ∙ at (i + 1) in
-    let c : getD (p ++ q) (w + i + 2) 0 ≡ getD q (i + 2) 0 = ap (λ n. getD (p ++ q) n 0) q2 ∙ at (i + 2) in
-    let d : getD (p ++ q) (w + i + 3) 0 ≡ getD q (i + 3) 0 = ap (λ n. getD (p ++ q) n 0) q3 ∙ at (i + 3) in
-    λ x. word-of (a x) (b x) (c x) (d x)
+    let b : get_or (p ++ q) (w + i + 1) 0 ≡ get_or q (i + 1) 0 = ap (λ n. get_or (p ++ q) n 0) q1 ∙ at (i + 1) in
+    let c : get_or (p ++ q) (w + i + 2) 0 ≡ get_or q (i + 2) 0 = ap (λ n. get_or (p ++ q) n 0) q2 ∙ at (i + 2) in
+    let d : get_or (p ++ q) (w + i + 3) 0 ≡ get_or q (i + 3) 0 = ap (λ n. get_or (p ++ q) n 0) q3 ∙ at (i + 3) in
+    λ x. word_of (a x) (b x) (c x) (d x)
   where
-    at : (n : ℕ) → getD (p ++ q) (w + n) 0 ≡ getD q n 0
-    at n = ap (λ m. getD (p ++ q) (m + n) 0) (sym e) ∙ getD-append-add p q n 0
+    at : (n : ℕ) → get_or (p ++ q) (w + n) 0 ≡ get_or q n 0
+    at n = ap (λ m. get_or (p ++ q) (m + n) 0) (sym e) ∙ get_or-append-add p q n 0
 
 module _ {S : Type 0} (before : S → S → Bool) (order : Order before) (kind width : ℕ) (bytes : S → List ℕ) (reads : List ℕ → Result S SymbolFault) (laws : WireLaws kind width bytes reads) where
   abbrev t : Travel S
   t = travel kind width bytes reads
 
-  abbrev one-record : Vertex S → List ℕ
-  one-record v = bytes (v .label) ++ (be4 (v .zero) ++ be4 (v .one))
+  abbrev one_record : Vertex S → List ℕ
+  one_record v = bytes v.label ++ (be4 v.zero ++ be4 v.one)
 
-  one-long : (v : Vertex S) → length (one-record v) ≡ width + 8
-  one-long v = let l = laws .long (v .label) in let a = length-append (bytes (v .label)) (be4 (v .zero) ++ be4 (v .one)) in omega arith
+  one_long : (v : Vertex S) → length (one_record v) ≡ width + 8
+  one_long v = let l = laws.long v.label in let a = length-append (bytes v.label) (be4 v.zero ++ be4 v.one) in omega arith
 
-  records-long : (vs : List (Vertex S)) → length (records bytes vs) ≡ length vs * (width + 8)
-  records-long [] = sym (zero-mul (width + 8))
-  records-long (v ∷ vs) =
-      let e = append-assoc (bytes (v .label)) (be4 (v .zero) ++ be4 (v .one)) (records bytes vs) in
-      let a = ap length (sym e) ∙ length-append (one-record v) (records bytes vs) in
-      let o = one-long v in
-      let r = records-long vs in
+  records_long : (vs : List (Vertex S)) → length (records bytes vs) ≡ length vs * (width + 8)
+  records_long [] = sym (zero-mul (width + 8))
+  records_long (v ∷ vs) =
+      let e = append_assoc (bytes v.label) (be4 v.zero ++ be4 v.one) (records bytes vs) in
+      let a = ap length (sym e) ∙ length-append (one_record v) (records bytes vs) in
+      let o = one_long v in
+      let r = records_long vs in
       let m = suc-mul (length vs) (width + 8) in
       omega arith
 
-  record-reads : (own : ℕ) (v : Vertex S) → v .zero < 2 ^ 32 → v .one < 2 ^ 32 → v .zero < own → v .one < own → v .one ≢ 0 → record-of t own (one-record v) ≡ Ok v
-  record-reads own v fz fo lz lo nz =
-      let l = laws .long (v .label) in
+  record_reads : (own : ℕ) (v : Vertex S) → v.zero < 2 ^ 32 → v.one < 2 ^ 32 → v.zero < own → v.one < own → v.one ≢ 0 → record_of t own (one_record v) ≡ Ok v
+  record_reads own v fz fo lz lo nz =
+      let l = laws.long v.label in
       let q : width ≡ width + 0 = omega arith in
-      let low : word (one-record v) width ≡ v .zero = ap (word (one-record v)) q ∙ word-at (bytes (v .label)) (be4 (v .zero) ++ be4 (v .one)) width 0 l ∙ word-be4 (v .zero) fz in
-      let high : word (one-record v) (width + 4) ≡ v .one = word-at (bytes (v .label)) (be4 (v .zero) ++ be4 (v .one)) width 4 l ∙ word-be4 (v .one) fo in
-      let label : reads (take width (one-record v)) ≡ Ok (v .label) = ap reads (take-at (bytes (v .label)) (be4 (v .zero) ++ be4 (v .one)) width l) ∙ laws .back (v .label) in
+      let low : word (one_record v) width ≡ v.zero = ap (word (one_record v)) q ∙ word_at (bytes v.label) (be4 v.zero ++ be4 v.one) width 0 l ∙ word_be4 v.zero fz in
+      let high : word (one_record v) (width + 4) ≡ v.one = word_at (bytes v.label) (be4 v.zero ++ be4 v.one) width 4 l ∙ word_be4 v.one fo in
+      let label : reads (take width (one_record v)) ≡ Ok v.label = ap reads (take_at (bytes v.label) (be4 v.zero ++ be4 v.one) width l) ∙ laws.back v.label in
       (λ i. linked own (low i) (high i) (label i)) ∙
-      cond-false (leb own (v .zero) || leb own (v .one)) (Err LinkNotBelow) (cond (eqb (v .one) 0) (Err OneLinkZero) (Ok v)) (or-from (leb own (v .zero)) (leb own (v .one)) (lt-leb own (v .zero) lz) (lt-leb own (v .one) lo)) ∙
-      cond-false (eqb (v .one) 0) (Err OneLinkZero) (Ok v) (ne-eqb (v .one) 0 nz)
+      cond-false (leb own v.zero || leb own v.one) (Err LinkNotBelow) (cond (eqb v.one 0) (Err OneLinkZero) (Ok v)) (or_from (leb own v.zero) (leb own v.one) (lt-leb own v.zero lz) (lt-leb own v.one lo)) ∙
+      cond-false (eqb v.one 0) (Err OneLinkZero) (Ok v) (ne_eqb v.one 0 nz)
 
   -- records of formed vertices read as these
-  records-read : (es vs : List (Vertex S)) → Formed before (vs ++ es) → length (vs ++ es) ≤ 1000000 → records-in before t (length es) vs (records bytes es) ≡ Ok (vs ++ es)
-  records-read [] vs f short = ap Ok (sym (append-nil vs))
-  records-read (v ∷ es) vs f short =
+  records_read : (es vs : List (Vertex S)) → Formed before (vs ++ es) → length (vs ++ es) ≤ 1000000 → records_in before t (length es) vs (records bytes es) ≡ Ok (vs ++ es)
+  records_read [] vs f short = ap Ok (sym (append-nil vs))
+  records_read (v ∷ es) vs f short =
       let two : length vs + 2 ≡ suc (suc (length vs)) = omega arith in
       let many = length-append vs (v ∷ es) in
-      let lz = f .zero-below (suc (suc (length vs))) v here in
-      let lo = f .one-below (suc (suc (length vs))) v here in
-      let nz = f .one-not-0 (suc (suc (length vs))) v here in
-      let whole : records bytes (v ∷ es) ≡ one-record v ++ records bytes es = sym (append-assoc (bytes (v .label)) (be4 (v .zero) ++ be4 (v .one)) (records bytes es)) in
-      let first : take (width + 8) (records bytes (v ∷ es)) ≡ one-record v = ap (take (width + 8)) whole ∙ take-at (one-record v) (records bytes es) (width + 8) (one-long v) in
-      let after : drop (width + 8) (records bytes (v ∷ es)) ≡ records bytes es = ap (drop (width + 8)) whole ∙ drop-at (one-record v) (records bytes es) (width + 8) (one-long v) in
-      let read : record-in before t vs (take (width + 8) (records bytes (v ∷ es))) ≡ Ok v =
-      ap (record-in before t vs) first ∙ ap (checked before vs) (record-reads (length vs + 2) v (omega arith) (omega arith) (omega arith) (omega arith) nz) ∙
-      cond-true (comes-before before (v .label) (look vs (v .zero))) (Ok v) (Err LabelNotAfter) (comes (look vs (v .zero)) refl) in
-      let moved : (vs ++ v ∷ []) ++ es ≡ vs ++ (v ∷ es) = append-assoc vs (v ∷ []) es in
-      ap (λ r. onward (length vs) r (λ w. records-in before t (length es) (vs ++ w ∷ []) (drop (width + 8) (records bytes (v ∷ es))))) read ∙
-      ap (records-in before t (length es) (vs ++ v ∷ [])) after ∙
-      records-read es (vs ++ v ∷ []) (subst⁻¹ (Formed before) moved f) (subst⁻¹ (λ xs. length xs ≤ 1000000) moved short) ∙
+      let lz = f.zero_below (suc (suc (length vs))) v here in
+      let lo = f.one_below (suc (suc (length vs))) v here in
+      let nz = f.one_not_0 (suc (suc (length vs))) v here in
+      let whole : records bytes (v ∷ es) ≡ one_record v ++ records bytes es = sym (append_assoc (bytes v.label) (be4 v.zero ++ be4 v.one) (records bytes es)) in
+      let first : take (width + 8) (records bytes (v ∷ es)) ≡ one_record v = ap (take (width + 8)) whole ∙ take_at (one_record v) (records bytes es) (width + 8) (one_long v) in
+      let after : drop (width + 8) (records bytes (v ∷ es)) ≡ records bytes es = ap (drop (width + 8)) whole ∙ drop_at (one_record v) (records bytes es) (width + 8) (one_long v) in
+      let read : record_in before t vs (take (width + 8) (records bytes (v ∷ es))) ≡ Ok v =
+      ap (record_in before t vs) first ∙ ap (checked before vs) (record_reads (length vs + 2) v (omega arith) (omega arith) (omega arith) (omega arith) nz) ∙
+      cond-true (comes_before before v.label (look vs v.zero)) (Ok v) (Err LabelNotAfter) (comes (look vs v.zero) refl) in
+      let moved : (vs ++ v ∷ []) ++ es ≡ vs ++ (v ∷ es) = append_assoc vs (v ∷ []) es in
+      ap (λ r. onward (length vs) r (λ w. records_in before t (length es) (vs ++ w ∷ []) (drop (width + 8) (records bytes (v ∷ es))))) read ∙
+      ap (records_in before t (length es) (vs ++ v ∷ [])) after ∙
+      records_read es (vs ++ v ∷ []) (subst⁻¹ (Formed before) moved f) (subst⁻¹ (λ xs. length xs ≤ 1000000) moved short) ∙
       ap Ok moved
     where
-      at-end : (xs : List (Vertex S)) → nth (xs ++ (v ∷ es)) (length xs) ≡ Some v
-      at-end [] = refl
-      at-end (x ∷ xs) = at-end xs
+      at_end : (xs : List (Vertex S)) → slice_get (xs ++ (v ∷ es)) (length xs) ≡ Some v
+      at_end [] = refl
+      at_end (x ∷ xs) = at_end xs
 
       here : look (vs ++ (v ∷ es)) (suc (suc (length vs))) ≡ Some v
-      here = at-end vs
+      here = at_end vs
 
-      comes : (o : Option (Vertex S)) → look vs (v .zero) ≡ o → comes-before before (v .label) (look vs (v .zero)) ≡ true
-      comes None e = ap (comes-before before (v .label)) e
-      comes (Some w) e = ap (comes-before before (v .label)) e ∙ f .later (suc (suc (length vs))) v w here (look-front before order vs (v ∷ es) (v .zero) w e)
+      comes : (o : Option (Vertex S)) → look vs v.zero ≡ o → comes_before before v.label (look vs v.zero) ≡ true
+      comes None e = ap (comes_before before v.label) e
+      comes (Some w) e = ap (comes_before before v.label) e ∙ f.later (suc (suc (length vs))) v w here (look_front before order vs (v ∷ es) v.zero w e)
 
   -- the head of what is written
-  abbrev head-of-drawing : ℕ → List (Vertex S) → Head
-  head-of-drawing root ds = record { whole = 14 + length ds * (width + 8); version = 1; kind = kind; count = length ds; root = root }
+  abbrev head_of_drawing : ℕ → List (Vertex S) → Head
+  head_of_drawing root ds = record { whole = 14 + length ds * (width + 8); version = 1; kind = kind; count = length ds; root = root }
 
   -- it passes, up to the room that there is
-  head-passes : (capacity root : ℕ) (ds : List (Vertex S)) → length ds ≤ 1000000 → root < 2 ^ 32 →
-      head-checked kind width capacity (dispatch kind width bytes (record { drawn = ds; root = root })) ≡
-      unless (leb (length ds) capacity) ShelfFull (Ok (head-of-drawing root ds, records bytes ds))
-  head-passes capacity root ds few fits =
+  head_passes : (capacity root : ℕ) (ds : List (Vertex S)) → length ds ≤ 1000000 → root < 2 ^ 32 →
+      head_checked kind width capacity (dispatch kind width bytes (record { drawn = ds; root = root })) ≡
+      unless (leb (length ds) capacity) ShelfFull (Ok (head_of_drawing root ds, records bytes ds))
+  head_passes capacity root ds few fits =
       let bs = dispatch kind width bytes (record { drawn = ds; root = root }) in
       let n = length ds in
-      let w8 = laws .few in
+      let w8 = laws.few in
       let big = mul-le-mul {n₁ = length ds} {m₁ = width + 8} {n₂ = 1000000} {m₂ = 16} (omega arith) (omega arith) in
-      let rl = records-long ds in
+      let rl = records_long ds in
       let long : length bs ≡ 14 + length ds * (width + 8) = omega arith in
-      let whole : head-of bs .whole ≡ 14 + length ds * (width + 8) = word-be4 (14 + length ds * (width + 8)) (omega arith) in
-      let count : head-of bs .count ≡ length ds = word-be4 (length ds) (omega arith) in
-      let root-is : head-of bs .root ≡ root = word-be4 root fits in
+      let whole : (head_of bs).whole ≡ 14 + length ds * (width + 8) = word_be4 (14 + length ds * (width + 8)) (omega arith) in
+      let count : (head_of bs).count ≡ length ds = word_be4 (length ds) (omega arith) in
+      let root_is : (head_of bs).root ≡ root = word_be4 root fits in
       let cp = ap (λ m. m * (width + 8)) count in
-      let right : Result (Head × List ℕ) ReceiveFault = Ok (head-of bs, drop 14 bs) in
-      let five : unless (eqb (length bs) (14 + head-of bs .count * (width + 8))) BadLength (unless (leb (head-of bs .count) capacity) ShelfFull right) ≡ unless (leb (head-of bs .count) capacity) ShelfFull right =
-      cond-true (eqb (length bs) (14 + head-of bs .count * (width + 8))) (unless (leb (head-of bs .count) capacity) ShelfFull right) (Err BadLength) (eq-eqb (length bs) (14 + head-of bs .count * (width + 8)) (omega arith)) in
-      let rest : Result (Head × List ℕ) ReceiveFault = unless (eqb (length bs) (14 + head-of bs .count * (width + 8))) BadLength (unless (leb (head-of bs .count) capacity) ShelfFull right) in
+      let right : Result (Head × List ℕ) ReceiveFault = Ok (head_of bs, drop 14 bs) in
+      let five : unless (eqb (length bs) (14 + (head_of bs).count * (width + 8))) BadLength (unless (leb (head_of bs).count capacity) ShelfFull right) ≡ unless (leb (head_of bs).count capacity) ShelfFull right =
+      cond-true (eqb (length bs) (14 + (head_of bs).count * (width + 8))) (unless (leb (head_of bs).count capacity) ShelfFull right) (Err BadLength) (eq-eqb (length bs) (14 + (head_of bs).count * (width + 8)) (omega arith)) in
+      let rest : Result (Head × List ℕ) ReceiveFault = unless (eqb (length bs) (14 + (head_of bs).count * (width + 8))) BadLength (unless (leb (head_of bs).count capacity) ShelfFull right) in
       let four = cond-true (eqb kind kind) rest (Err OtherKind) (eq-eqb kind kind refl) in
-      let two = cond-true (eqb (head-of bs .whole) (length bs)) (unless (eqb kind kind) OtherKind rest) (Err BadLength) (eq-eqb (head-of bs .whole) (length bs) (whole ∙ sym long)) in
-      let one = cond-true (leb 14 (length bs)) (unless (eqb (head-of bs .whole) (length bs)) BadLength (unless (eqb kind kind) OtherKind rest)) (Err BadLength) (le-leb 14 (length bs) (omega arith)) in
+      let two = cond-true (eqb (head_of bs).whole (length bs)) (unless (eqb kind kind) OtherKind rest) (Err BadLength) (eq-eqb (head_of bs).whole (length bs) (whole ∙ sym long)) in
+      let one = cond-true (leb 14 (length bs)) (unless (eqb (head_of bs).whole (length bs)) BadLength (unless (eqb kind kind) OtherKind rest)) (Err BadLength) (le-leb 14 (length bs) (omega arith)) in
       one ∙ two ∙ four ∙ five ∙
-      (λ i. unless (leb (count i) capacity) ShelfFull (Ok (record { whole = whole i; version = 1; kind = kind; count = count i; root = root-is i }, records bytes ds)))
+      (λ i. unless (leb (count i) capacity) ShelfFull (Ok (record { whole = whole i; version = 1; kind = kind; count = count i; root = root_is i }, records bytes ds)))
 
-  module _ (capacity : ℕ) (vs : List (Vertex S)) (u : Codes S) (proper : Proper before u) (short : Short u) (few : length (fresh before u .drawn) ≤ 1000000) (r : Result ℕ ReceiveFault) (ws : List (Vertex S)) where
+  module _ (capacity : ℕ) (vs : List (Vertex S)) (u : Codes S) (proper : Proper before u) (short : Short u) (few : length (fresh before u).drawn ≤ 1000000) (r : Result ℕ ReceiveFault) (ws : List (Vertex S)) where
     abbrev ds : List (Vertex S)
-    ds = fresh before u .drawn
+    ds = (fresh before u).drawn
 
     abbrev root : ℕ
-    root = fresh before u .root
+    root = (fresh before u).root
 
     abbrev bs : List ℕ
     bs = dispatch kind width bytes (fresh before u)
 
     ends : Ends before capacity vs (Good ds root × (bs ≡ bs)) u r ws → Good ds root → Lays before capacity vs u r ws × OnlyFull before r
-    ends (inl e) g = absurd (e .0 (g, refl))
-    ends (inr (inl e)) g = absurd (let s = short (e .1 .0) (e .1 .1) in let h = e .1 .2 in omega arith)
-    ends (inr (inr e)) g = (e .2, e .3)
+    ends (inl e) g = absurd (e.0 (g, refl))
+    ends (inr (inl e)) g = absurd (let s = short e.1.0 e.1.1 in let h = e.1.2 in omega arith)
+    ends (inr (inr e)) g = (e.2, e.3)
 
-    by-head : ByHead before t capacity vs bs (unless (leb (length ds) capacity) ShelfFull (Ok (head-of-drawing root ds, records bytes ds))) r ws → (leb (length ds) capacity ≡ true) ⊎ (leb (length ds) capacity ≡ false) → Takes before capacity vs u r ws
-    by-head x (inl h) =
+    by_head : ByHead before t capacity vs bs (unless (leb (length ds) capacity) ShelfFull (Ok (head_of_drawing root ds, records bytes ds))) r ws → (leb (length ds) capacity ≡ true) ⊎ (leb (length ds) capacity ≡ false) → Takes before capacity vs u r ws
+    by_head x (inl h) =
         let l = written before order u proper in
-        let y = subst (λ b. ByHead before t capacity vs bs (unless b ShelfFull (Ok (head-of-drawing root ds, records bytes ds))) r ws) h x in
-        let recs = records-read ds [] (l .sound .formed) few in
+        let y = subst (λ b. ByHead before t capacity vs bs (unless b ShelfFull (Ok (head_of_drawing root ds, records bytes ds))) r ws) h x in
+        let recs = records_read ds [] l.sound.formed few in
         let z = subst (λ q. ByRecords before t capacity vs bs root q r ws) recs y in
-        let laid = ends (subst (λ c. Ends before capacity vs (Good ds root × (bs ≡ dispatch kind width bytes (fresh before c))) c r ws) (l .is) z) (l .good) in
-        inl (leb-true (length ds) capacity h, laid .0, laid .1)
-    by-head x (inr h) =
-        inr (leb-false (length ds) capacity h, subst (λ b. ByHead before t capacity vs bs (unless b ShelfFull (Ok (head-of-drawing root ds, records bytes ds))) r ws) h x)
+        let laid = ends (subst (λ c. Ends before capacity vs (Good ds root × (bs ≡ dispatch kind width bytes (fresh before c))) c r ws) l.is z) l.good in
+        inl (leb-true (length ds) capacity h, laid.0, laid.1)
+    by_head x (inr h) =
+        inr (leb-false (length ds) capacity h, subst (λ b. ByHead before t capacity vs bs (unless b ShelfFull (Ok (head_of_drawing root ds, records bytes ds))) r ws) h x)
 
     taken : Receives before t capacity vs bs r ws → Takes before capacity vs u r ws
     taken x =
-        let g = written before order u proper .good in
-        by-head (subst (λ h. ByHead before t capacity vs bs h r ws) (head-passes capacity root ds few (omega arith)) x) (cases-bool (leb (length ds) capacity))
+        let g = (written before order u proper).good in
+        by_head (subst (λ h. ByHead before t capacity vs bs h r ws) (head_passes capacity root ds few (omega arith)) x) (cases_Bool (leb (length ds) capacity))
 
-  pub takes-written : TakesWritten before (travel kind width bytes reads)
-  takes-written = taken
+  pub takes_written : TakesWritten before (travel kind width bytes reads)
+  takes_written = taken

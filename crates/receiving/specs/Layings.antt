@@ -1,24 +1,18 @@
 -- Laying the records of a dispatch down, one after another.
-use mathlib.Core.Bool.{Bool}
-use mathlib.Core.List.{List, [], _∷_, _++_}
-use mathlib.Core.Path.{_≡_}
-use Prim.Native.Nat.{ℕ, _+_, _<_}
-use lib.ListN.{length, take}
-use Rattle·std.specs.declared.result.Result.{Result}
-use Rattle·std.specs.declared.result.Result.the-variants.{Ok, Err}
-use Rattle·ledger.specs.declared.Vertex.{Vertex}
-use Rattle·ledger.specs.Lists.{Codes}
-use Rattle·ledger.specs.Diagrams.{Good, Sound}
-use Rattle·ledger.specs.Laid.{Laid}
-use Rattle·ledger.specs.Ledger.{lay, lists, codes}
-use Rattle·memory.specs.declared.shelf.Full.{Full}
-use Rattle·memory.specs.declared.work.Place.{Place}
-use Rattle·memory.specs.Marks.{noted}
+use Rattle.std.specs.Prelude.{◌≡◌, ℕ, ◌+◌, ◌<◌, Bool, List, [], ◌∷◌, ◌++◌, length, take, Ok, Err, Result}
+use Rattle.ledger.specs.declared.Vertex.{Vertex}
+use Rattle.ledger.specs.Lists.{Codes}
+use Rattle.ledger.specs.Diagrams.{Good, Sound}
+use Rattle.ledger.specs.Laid.{Laid}
+use Rattle.ledger.specs.Ledger.{lay, lists, codes}
+use Rattle.memory.specs.declared.shelf.Full.{Full}
+use Rattle.memory.specs.declared.work.Place.{Place}
+use Rattle.memory.specs.Marks.{noted}
 
 -- lists laid down one after another
-abbrev pub lay-all : {S : Type 0} → (S → S → Bool) → List (Codes S) → List (Codes S) → List (Codes S)
-lay-all before row [] = row
-lay-all before row (t ∷ ts) = lay-all before (lay before row t) ts
+abbrev pub lay_all : {S : Type 0} → (S → S → Bool) → List (Codes S) → List (Codes S) → List (Codes S)
+lay_all before row [] = row
+lay_all before row (t ∷ ts) = lay_all before (lay before row t) ts
 
 -- the place that keeps a number
 abbrev pub keeping : ℕ → Place
@@ -29,7 +23,7 @@ pub record Laying {S : Type 0} (before : S → S → Bool) (ds vs : List (Vertex
   pub sound : Sound before ws
   pub more : List (Vertex S)
   pub extends : ws ≡ vs ++ more
-  pub row : lists ws ≡ lay-all before (lists vs) (take k (lists ds))
+  pub row : lists ws ≡ lay_all before (lists vs) (take k (lists ds))
   pub numbers : (n : ℕ) → n < k + 2 → Good ws (noted work n) × (codes ws (noted work n) ≡ codes ds n)
 
 -- the goal is laid down over the vertices vs; or it does not fit, and part of it may stand after them

@@ -1,26 +1,19 @@
 -- What receiving answers, and what the shelf holds then.
-use mathlib.Core.Bool.{Bool}
-use mathlib.Core.List.{List, []}
-use mathlib.Core.Logic.{_⊎_}
-use mathlib.Core.Path.{_≡_}
-use Prim.Native.Nat.{ℕ}
-use lib.ListN.{length}
-use Rattle·std.specs.declared.result.Result.{Result}
-use Rattle·std.specs.declared.result.Result.the-variants.{Ok, Err}
-use Rattle·symbols.specs.Wire.{Travel}
-use Rattle·ledger.specs.declared.Vertex.{Vertex}
-use Rattle·ledger.specs.Lists.{Codes}
-use Rattle·ledger.specs.Diagrams.{Good, Different}
-use Rattle·ledger.specs.Ledger.{codes, Lays}
-use Rattle·ledger.specs.Visits.{Visits}
-use Rattle·wire.specs.Records.{records-in}
-use Rattle·wire.specs.Written.{written}
-use Rattle·wire.specs.declared.head.Head.{Head}
-use Rattle·wire.specs.declared.faults.FaultyRecord.{FaultyRecord}
-use Rattle·wire.specs.declared.faults.ReceiveFault.{ReceiveFault}
-use Rattle·wire.specs.declared.faults.ReceiveFault.the-variants.{Record, NotAsWritten, CodeTooLong, ShelfFull}
-use Rattle·receiving·specs.Checks.{head-checked}
-use Rattle·receiving·specs.Lengths.{Short, Long}
+use Rattle.std.specs.Prelude.{◌≡◌, ℕ, Bool, ◌⊎◌, List, [], length, Ok, Err, Result}
+use Rattle.symbols.specs.Wire.{Travel}
+use Rattle.ledger.specs.declared.Vertex.{Vertex}
+use Rattle.ledger.specs.Lists.{Codes}
+use Rattle.ledger.specs.Diagrams.{Good, Different}
+use Rattle.ledger.specs.Ledger.{codes, Lays}
+use Rattle.ledger.specs.Visits.{Visits}
+use Rattle.wire.specs.Records.{records_in}
+use Rattle.wire.specs.Written.{written}
+use Rattle.wire.specs.declared.head.Head.{Head}
+use Rattle.wire.specs.declared.faults.FaultyRecord.{FaultyRecord}
+use Rattle.wire.specs.declared.faults.ReceiveFault.{ReceiveFault}
+use Rattle.wire.specs.declared.faults.ReceiveFault.TheVariants.{Record, NotAsWritten, CodeTooLong, ShelfFull}
+use Rattle.receiving.specs.Checks.{head_checked}
+use Rattle.receiving.specs.Lengths.{Short, Long}
 
 module _ {S : Type 0} (before : S → S → Bool) where
   -- a fault, and the vertices are as they were
@@ -55,8 +48,8 @@ module _ {S : Type 0} (before : S → S → Bool) where
   -- the head: the first check that fails is told; or the records follow
   abbrev pub ByHead : Travel S → ℕ → List (Vertex S) → List ℕ → Result (Head × List ℕ) ReceiveFault → Result ℕ ReceiveFault → List (Vertex S) → Type 0
   ByHead t capacity vs bs (Err e) r ws = Refused vs e r ws
-  ByHead t capacity vs bs (Ok h) r ws = ByRecords t capacity vs bs (h .0 .root) (records-in before t (h .0 .count) [] (h .1)) r ws
+  ByHead t capacity vs bs (Ok h) r ws = ByRecords t capacity vs bs h.0.root (records_in before t h.0.count [] h.1) r ws
 
   -- bytes are received over the vertices vs, which are ws then
   abbrev pub Receives : Travel S → ℕ → List (Vertex S) → List ℕ → Result ℕ ReceiveFault → List (Vertex S) → Type 0
-  Receives t capacity vs bs r ws = ByHead t capacity vs bs (head-checked (t .kind) (t .width) capacity bs) r ws
+  Receives t capacity vs bs r ws = ByHead t capacity vs bs (head_checked t.kind t.width capacity bs) r ws

@@ -1,20 +1,15 @@
 // The checks of a dispatch's head and of each record, first to last. They read each byte a few times at most, and hold
 // nothing.
-ghost use Prim.Native.Nat.{_+_, _*_, _≤_};
-ghost use lib.ListN.{length};
-ghost use mathlib.Core.Path.{_≡_};
-ghost use Rattle·wire.specs.Records.{travel};
-ghost use Rattle·receiving·specs.Reads.{Checked};
-ghost use Rattle·receiving·specs.Checks.{plain-head, head-checked, record-checked};
+ghost use Rattle.std.specs.Prelude.{◌≡◌, ◌+◌, ◌*◌, ◌≤◌, length};
+ghost use Rattle.wire.specs.Records.{travel};
+ghost use Rattle.receiving.specs.Reads.{Checked};
+ghost use Rattle.receiving.specs.Checks.{plain_head, head_checked, record_checked};
+
 use crate::reading::read_at;
 use ledger::Vertex;
-use symbols::Symbol;
-use symbols::WireSymbol;
-use wire::faults::FaultyRecord;
-use wire::faults::ReceiveFault;
-use wire::faults::RecordFault;
-use wire::head::Head;
-use wire::head::split_head;
+use symbols::{Symbol, WireSymbol};
+use wire::faults::{FaultyRecord, ReceiveFault, RecordFault};
+use wire::head::{Head, split_head};
 use wire::records::zero_label_after;
 
 // The version of the bytes that are read here.
@@ -25,7 +20,7 @@ pub(crate) fn read_head<'a, S: WireSymbol>(
     bytes: &'a [u8],
     capacity: u32,
 ) -> Result<(Head, &'a [u8]), ReceiveFault>
-    ensures { λ r. ⌜ plain-head r ≡ head-checked (S·WireSymbol .kind) (S·WireSymbol .width) capacity (now (bytes .entry)) ⌝ }
+    ensures { plain_head result ≡ head_checked S.WireSymbol.kind S.WireSymbol.width capacity bytes.now }
 {
     let Some((head, rest)) = split_head(bytes) else {
         return Err(ReceiveFault::BadLength);
@@ -50,9 +45,9 @@ pub(crate) fn read_head<'a, S: WireSymbol>(
 
 // One record, with the label of its zero link.
 fn check_record<S: WireSymbol>(records: &[u8], k: u32) -> Result<Vertex<S>, RecordFault>
-    requires few { ⌜ k ≤ 16000000 ⌝ }
-    requires there { ⌜ (k + 1) * (S·WireSymbol .width + 8) ≤ length (now records) ⌝ }
-    ensures { λ r. ⌜ r ≡ record-checked (S·Symbol .before) (travel (S·WireSymbol .kind) (S·WireSymbol .width) (S·WireSymbol .bytes) (S·WireSymbol .reads)) (now (records .entry)) k ⌝ }
+    requires few { k ≤ 16000000 }
+    requires there { (k + 1) * (S.WireSymbol.width + 8) ≤ length records.now }
+    ensures { result ≡ record_checked S.Symbol.before (travel S.WireSymbol.kind S.WireSymbol.width S.WireSymbol.bytes S.WireSymbol.reads) records.now k }
 {
     let vertex: Vertex<S> = read_at(records, k)?;
     if !zero_label_after(vertex.label, vertex.zero, records) {
@@ -63,9 +58,9 @@ fn check_record<S: WireSymbol>(records: &[u8], k: u32) -> Result<Vertex<S>, Reco
 
 // Every record, first to last.
 pub(crate) fn check_records<S: WireSymbol>(records: &[u8], count: u32) -> Result<(), FaultyRecord>
-    requires few { ⌜ count ≤ 1000000 ⌝ }
-    requires long { ⌜ length (now records) ≡ count * (S·WireSymbol .width + 8) ⌝ }
-    ensures { λ r. ⌜ Checked (S·Symbol .before) (travel (S·WireSymbol .kind) (S·WireSymbol .width) (S·WireSymbol .bytes) (S·WireSymbol .reads)) count (now (records .entry)) r ⌝ }
+    requires few { count ≤ 1000000 }
+    requires long { length records.now ≡ count * (S.WireSymbol.width + 8) }
+    ensures { Checked S.Symbol.before (travel S.WireSymbol.kind S.WireSymbol.width S.WireSymbol.bytes S.WireSymbol.reads) count records.now result }
 {
     for place in 0..count {
         if let Err(fault) = check_record::<S>(records, place) {

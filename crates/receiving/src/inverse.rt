@@ -1,19 +1,19 @@
 // Writing and receiving are inverse. Each theorem stands on the contract of a function that does nothing else.
-ghost use Rattle·wire.specs.Records.{travel};
-ghost use Rattle·receiving·specs.Statements.{OnlyWritten, TakesWritten};
-use symbols::Symbol;
-use symbols::WireSymbol;
+ghost use Rattle.wire.specs.Records.{travel};
+ghost use Rattle.receiving.specs.Statements.{OnlyWritten, TakesWritten};
+
+use symbols::{Symbol, WireSymbol};
 
 // Bytes that are accepted are what writing gives.
 pub fn only_written<S: WireSymbol>() -> u8
-    ensures { λ _. ⌜ OnlyWritten (S·Symbol .before) (travel (S·WireSymbol .kind) (S·WireSymbol .width) (S·WireSymbol .bytes) (S·WireSymbol .reads)) ⌝ }
+    ensures { OnlyWritten S.Symbol.before (travel S.WireSymbol.kind S.WireSymbol.width S.WireSymbol.bytes S.WireSymbol.reads) }
 {
     0
 }
 
 // What writing gives is accepted, if it fits.
 pub fn takes_written<S: WireSymbol>() -> u8
-    ensures { λ _. ⌜ TakesWritten (S·Symbol .before) (travel (S·WireSymbol .kind) (S·WireSymbol .width) (S·WireSymbol .bytes) (S·WireSymbol .reads)) ⌝ }
+    ensures { TakesWritten S.Symbol.before (travel S.WireSymbol.kind S.WireSymbol.width S.WireSymbol.bytes S.WireSymbol.reads) }
 {
     0
 }

@@ -1,30 +1,24 @@
 // Whether a code of the root's list is longer than 64 symbols: one pass over the records, each measured from its links,
 // which are lower. A length is counted up to 65.
-ghost use Prim.Native.Nat.{suc, _+_, _<_, _≤_, min};
-ghost use lib.Dec.{ltb};
-ghost use lib.ListN.{length};
-ghost use mathlib.Core.Bool.{true};
-ghost use mathlib.Core.List.{List};
-ghost use mathlib.Core.Logic.{_↔_};
-ghost use mathlib.Core.Path.{_≡_};
-ghost use Rattle·ledger.specs.declared.Vertex.{Vertex as Row};
-ghost use Rattle·ledger.specs.Diagrams.{Formed};
-ghost use Rattle·ledger.specs.Ledger.{codes};
-ghost use Rattle·wire.specs.Records.{travel};
-ghost use Rattle·receiving·specs.Reads.{ReadAs};
-ghost use Rattle·receiving·specs.Lengths.{Long, longest, length-in, Measured};
+ghost use Rattle.std.specs.Prelude.{◌≡◌, suc, ◌+◌, ◌<◌, ◌≤◌, min, true, ◌↔◌, List, length, nat_lt};
+ghost use Rattle.ledger.specs.declared.Vertex.{Vertex as Row};
+ghost use Rattle.ledger.specs.Diagrams.{Formed};
+ghost use Rattle.ledger.specs.Ledger.{codes};
+ghost use Rattle.wire.specs.Records.{travel};
+ghost use Rattle.receiving.specs.Reads.{ReadAs};
+ghost use Rattle.receiving.specs.Lengths.{Long, longest, length_in, Measured};
+
 use crate::reading::vertex_at;
 use memory::work::Place;
-use symbols::Symbol;
-use symbols::WireSymbol;
+use symbols::{Symbol, WireSymbol};
 
 // No code is longer.
 const LONGEST: u32 = 64;
 
 // How long the codes of a number are, from its place; those of a terminal are empty.
 fn length_at(work: &[Place], n: u32) -> u32
-    requires { ⌜ n ≤ length (now work) + 1 ⌝ }
-    ensures { λ r. ⌜ r ≡ length-in (now (work .entry)) n ⌝ }
+    requires { n ≤ length work.now + 1 }
+    ensures { result ≡ length_in work.now n }
 {
     if n < 2 {
         return 0;
@@ -34,10 +28,10 @@ fn length_at(work: &[Place], n: u32) -> u32
 
 // How long the codes of record k are, from those of the records before it.
 fn measure<S: WireSymbol>(records: &[u8], work: &[Place], k: u32) -> u32
-    requires long { ⌜ length (now records) ≤ 16000000 ⌝ }
-    requires few { ⌜ k ≤ 1000000 ⌝ }
-    requires room { ⌜ k < length (now work) ⌝ }
-    ensures { λ r. ⌜ ((ds : List (Row S)) → ReadAs (travel (S·WireSymbol .kind) (S·WireSymbol .width) (S·WireSymbol .bytes) (S·WireSymbol .reads)) (now (records .entry)) ds → Formed (S·Symbol .before) ds → k < length ds → Measured ds k (now (work .entry)) → r ≡ min (longest (codes ds (suc (suc k)))) 65) ⌝ }
+    requires long { length records.now ≤ 16000000 }
+    requires few { k ≤ 1000000 }
+    requires room { k < length work.now }
+    ensures { (ds : List (Row S)) → ReadAs (travel S.WireSymbol.kind S.WireSymbol.width S.WireSymbol.bytes S.WireSymbol.reads) records.now ds → Formed S.Symbol.before ds → k < length ds → Measured ds k work.now → result ≡ min (longest (codes ds (suc (suc k)))) 65 }
 {
     let Some(vertex) = vertex_at::<S>(records, k + 2) else {
         return 0;
@@ -49,10 +43,10 @@ fn measure<S: WireSymbol>(records: &[u8], work: &[Place], k: u32) -> u32
 
 // Measures so many records.
 fn measure_all<S: WireSymbol>(records: &[u8], count: u32, work: &mut [Place])
-    requires long { ⌜ length (now records) ≤ 16000000 ⌝ }
-    requires few { ⌜ count ≤ 1000000 ⌝ }
-    requires room { ⌜ count ≤ length (now work) ⌝ }
-    ensures { λ _. ⌜ ((ds : List (Row S)) → ReadAs (travel (S·WireSymbol .kind) (S·WireSymbol .width) (S·WireSymbol .bytes) (S·WireSymbol .reads)) (now (records .entry)) ds → Formed (S·Symbol .before) ds → length ds ≡ count → Measured ds count (now (work .exit))) ⌝ }
+    requires long { length records.now ≤ 16000000 }
+    requires few { count ≤ 1000000 }
+    requires room { count ≤ length work.old }
+    ensures { (ds : List (Row S)) → ReadAs (travel S.WireSymbol.kind S.WireSymbol.width S.WireSymbol.bytes S.WireSymbol.reads) records.now ds → Formed S.Symbol.before ds → length ds ≡ count → Measured ds count work.new }
 {
     for k in 0..count {
         let number = measure::<S>(records, work, k);
@@ -68,7 +62,7 @@ fn measure_all<S: WireSymbol>(records: &[u8], count: u32, work: &mut [Place])
 
 // Whether a length is over the limit.
 fn is_over(measured: u32) -> bool
-    ensures { λ r. ⌜ r ≡ ltb 64 measured ⌝ }
+    ensures { result ≡ nat_lt 64 measured }
 {
     measured > LONGEST
 }
@@ -80,11 +74,11 @@ pub(crate) fn too_long<S: WireSymbol>(
     root: u32,
     work: &mut [Place],
 ) -> bool
-    requires long { ⌜ length (now records) ≤ 16000000 ⌝ }
-    requires few { ⌜ count ≤ 1000000 ⌝ }
-    requires room { ⌜ count ≤ length (now work) ⌝ }
-    requires good { ⌜ root ≤ count + 1 ⌝ }
-    ensures { λ r. ⌜ ((ds : List (Row S)) → ReadAs (travel (S·WireSymbol .kind) (S·WireSymbol .width) (S·WireSymbol .bytes) (S·WireSymbol .reads)) (now (records .entry)) ds → Formed (S·Symbol .before) ds → length ds ≡ count → (r ≡ true) ↔ Long (codes ds root)) ⌝ }
+    requires long { length records.now ≤ 16000000 }
+    requires few { count ≤ 1000000 }
+    requires room { count ≤ length work.old }
+    requires good { root ≤ count + 1 }
+    ensures { (ds : List (Row S)) → ReadAs (travel S.WireSymbol.kind S.WireSymbol.width S.WireSymbol.bytes S.WireSymbol.reads) records.now ds → Formed S.Symbol.before ds → length ds ≡ count → (result ≡ true) ↔ Long (codes ds root) }
 {
     measure_all::<S>(records, count, work);
     is_over(length_at(work, root))

@@ -3,30 +3,25 @@
 // The head is checked, then each record, then that the bytes are those that writing gives, then how long the codes are;
 // only then is anything laid down, and where it does not fit the shelf is cut back. Any bytes of any length are taken. The
 // time is linear in them, where the buckets of equal records are even; nothing is kept but in the work space.
-ghost use Prim.Native.Nat.{_+_, _*_, _≤_};
-ghost use lib.ListN.{length};
-ghost use mathlib.Core.Bool.{true};
-ghost use mathlib.Core.List.{List};
-ghost use mathlib.Core.Logic.{_↔_};
-ghost use mathlib.Core.Path.{_≡_};
-ghost use Rattle·ledger.specs.declared.Vertex.{Vertex as Row};
-ghost use Rattle·ledger.specs.Diagrams.{Formed, Sound};
-ghost use Rattle·ledger.specs.Ledger.{codes};
-ghost use Rattle·wire.specs.Records.{travel};
-ghost use Rattle·receiving·specs.Reads.{ReadAs};
-ghost use Rattle·receiving·specs.Receives.{Ends, InOrder, Receives};
+#![tactic(auto)]
+
+ghost use Rattle.std.specs.Prelude.{◌≡◌, ◌+◌, ◌*◌, ◌≤◌, true, ◌↔◌, List, length};
+ghost use Rattle.ledger.specs.declared.Vertex.{Vertex as Row};
+ghost use Rattle.ledger.specs.Diagrams.{Formed, Sound};
+ghost use Rattle.ledger.specs.Ledger.{codes};
+ghost use Rattle.wire.specs.Records.{travel};
+ghost use Rattle.receiving.specs.Reads.{ReadAs};
+ghost use Rattle.receiving.specs.Receives.{Ends, InOrder, Receives};
+
 use crate::apart::all_apart;
-use crate::checks::check_records;
-use crate::checks::read_head;
+use crate::checks::{check_records, read_head};
 use crate::laying::lay_down;
 use crate::lengths::too_long;
 use crate::visiting::in_order;
 use memory::shelf::Shelf;
 use memory::work::Place;
-use symbols::Symbol;
-use symbols::WireSymbol;
+use symbols::{Symbol, WireSymbol};
 use wire::faults::ReceiveFault;
-use wire::faults::ReceiveFromRecord;
 
 mod apart;
 mod checks;
@@ -39,11 +34,11 @@ mod visiting;
 // Whether the records are those that writing the root's list gives: the root is one of them or a terminal, they stand in
 // the order of laying down, and no two are equal.
 fn as_written<S: WireSymbol>(records: &[u8], count: u32, root: u32, work: &mut [Place]) -> bool
-    requires long { ⌜ length (now records) ≤ 16000000 ⌝ }
-    requires few { ⌜ count ≤ 1000000 ⌝ }
-    requires room { ⌜ 2 * count + 256 ≤ length (now work) ⌝ }
-    ensures good { λ r. ⌜ (r ≡ true → root ≤ count + 1) ⌝ }
-    ensures answer { λ r. ⌜ ((ds : List (Row S)) → ReadAs (travel (S·WireSymbol .kind) (S·WireSymbol .width) (S·WireSymbol .bytes) (S·WireSymbol .reads)) (now (records .entry)) ds → length ds ≡ count → (r ≡ true) ↔ InOrder (S·Symbol .before) ds root) ⌝ }
+    requires long { length records.now ≤ 16000000 }
+    requires few { count ≤ 1000000 }
+    requires room { 2 * count + 256 ≤ length work.old }
+    ensures good { result ≡ true → root ≤ count + 1 }
+    ensures answer { (ds : List (Row S)) → ReadAs (travel S.WireSymbol.kind S.WireSymbol.width S.WireSymbol.bytes S.WireSymbol.reads) records.now ds → length ds ≡ count → (result ≡ true) ↔ InOrder S.Symbol.before ds root }
 {
     if root > count + 1 {
         return false;
@@ -62,13 +57,13 @@ fn lay_checked<S: WireSymbol, B: Shelf<S>>(
     root: u32,
     work: &mut [Place],
 ) -> Result<u32, ReceiveFault>
-    requires long { ⌜ length (now records) ≤ 16000000 ⌝ }
-    requires few { ⌜ count ≤ 1000000 ⌝ }
-    requires room { ⌜ 2 * count + 256 ≤ length (now work) ⌝ }
-    ensures answer { λ r. ⌜ (B·Shelf .ready (now (shelf .entry)) → (ds : List (Row S)) → ReadAs (travel (S·WireSymbol .kind) (S·WireSymbol .width) (S·WireSymbol .bytes) (S·WireSymbol .reads)) (now (records .entry)) ds → Formed (S·Symbol .before) ds → length ds ≡ count →
-        Sound (S·Symbol .before) (B·Shelf .vertices (now (shelf .entry))) → Ends (S·Symbol .before) (B·Shelf .capacity (now (shelf .entry))) (B·Shelf .vertices (now (shelf .entry))) (InOrder (S·Symbol .before) ds root) (codes ds root) r (B·Shelf .vertices (now (shelf .exit)))) ⌝ }
-    ensures ready { λ _. ⌜ (B·Shelf .ready (now (shelf .entry)) → B·Shelf .ready (now (shelf .exit))) ⌝ }
-    ensures size { λ _. ⌜ B·Shelf .capacity (now (shelf .exit)) ≡ B·Shelf .capacity (now (shelf .entry)) ⌝ }
+    requires long { length records.now ≤ 16000000 }
+    requires few { count ≤ 1000000 }
+    requires room { 2 * count + 256 ≤ length work.old }
+    ensures answer { B.Shelf.ready shelf.old → (ds : List (Row S)) → ReadAs (travel S.WireSymbol.kind S.WireSymbol.width S.WireSymbol.bytes S.WireSymbol.reads) records.now ds → Formed S.Symbol.before ds → length ds ≡ count →
+        Sound S.Symbol.before (B.Shelf.vertices shelf.old) → Ends S.Symbol.before (B.Shelf.capacity shelf.old) (B.Shelf.vertices shelf.old) (InOrder S.Symbol.before ds root) (codes ds root) result (B.Shelf.vertices shelf.new) }
+    ensures ready { B.Shelf.ready shelf.old → B.Shelf.ready shelf.new }
+    ensures size { B.Shelf.capacity shelf.new ≡ B.Shelf.capacity shelf.old }
 {
     if !as_written::<S>(records, count, root, work) {
         return Err(ReceiveFault::NotAsWritten);
@@ -88,10 +83,10 @@ pub fn receive<S: WireSymbol, B: Shelf<S>>(
     bytes: &[u8],
     work: &mut [Place],
 ) -> Result<u32, ReceiveFault>
-    requires { ⌜ 2 * B·Shelf .capacity (now shelf) + 256 ≤ length (now work) ⌝ }
-    ensures answer { λ r. ⌜ (B·Shelf .ready (now (shelf .entry)) → Sound (S·Symbol .before) (B·Shelf .vertices (now (shelf .entry))) → Receives (S·Symbol .before) (travel (S·WireSymbol .kind) (S·WireSymbol .width) (S·WireSymbol .bytes) (S·WireSymbol .reads)) (B·Shelf .capacity (now (shelf .entry))) (B·Shelf .vertices (now (shelf .entry))) (now (bytes .entry)) r (B·Shelf .vertices (now (shelf .exit)))) ⌝ }
-    ensures ready { λ _. ⌜ (B·Shelf .ready (now (shelf .entry)) → B·Shelf .ready (now (shelf .exit))) ⌝ }
-    ensures size { λ _. ⌜ B·Shelf .capacity (now (shelf .exit)) ≡ B·Shelf .capacity (now (shelf .entry)) ⌝ }
+    requires { 2 * B.Shelf.capacity shelf.old + 256 ≤ length work.old }
+    ensures answer { B.Shelf.ready shelf.old → Sound S.Symbol.before (B.Shelf.vertices shelf.old) → Receives S.Symbol.before (travel S.WireSymbol.kind S.WireSymbol.width S.WireSymbol.bytes S.WireSymbol.reads) (B.Shelf.capacity shelf.old) (B.Shelf.vertices shelf.old) bytes.now result (B.Shelf.vertices shelf.new) }
+    ensures ready { B.Shelf.ready shelf.old → B.Shelf.ready shelf.new }
+    ensures size { B.Shelf.capacity shelf.new ≡ B.Shelf.capacity shelf.old }
 {
     let (head, records) = read_head::<S>(bytes, shelf.capacity())?;
     check_records::<S>(records, head.count)?;

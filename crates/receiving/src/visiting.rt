@@ -3,21 +3,16 @@
 //
 // No vertex is marked: once the first d vertices were passed, a lower number is one of them. So each record is read once,
 // and what waits stands in the work space, at most two places for each number.
-ghost use Prim.Native.Nat.{ℕ, _*_, _<_, _≤_};
-ghost use lib.ListN.{length, set};
-ghost use mathlib.Core.Bool.{true};
-ghost use mathlib.Core.List.{List};
-ghost use mathlib.Core.Logic.{_↔_};
-ghost use mathlib.Core.Path.{_≡_};
-ghost use Rattle·ledger.specs.declared.Vertex.{Vertex as Row};
-ghost use Rattle·ledger.specs.Visits.{Visits};
-ghost use Rattle·wire.specs.Records.{travel};
-ghost use Rattle·receiving·specs.Reads.{ReadAs};
-ghost use Rattle·receiving·specs.Walks.{task-of, place-of, task-at, Fits, Leads, ComesDown};
+ghost use Rattle.std.specs.Prelude.{◌≡◌, ℕ, ◌*◌, ◌<◌, ◌≤◌, true, ◌↔◌, List, length, slice_set};
+ghost use Rattle.ledger.specs.declared.Vertex.{Vertex as Row};
+ghost use Rattle.ledger.specs.Visits.{Visits};
+ghost use Rattle.wire.specs.Records.{travel};
+ghost use Rattle.receiving.specs.Reads.{ReadAs};
+ghost use Rattle.receiving.specs.Walks.{task_of, place_of, task_at, Fits, Leads, ComesDown};
+
 use crate::reading::vertex_at;
 use memory::work::Place;
-use symbols::Symbol;
-use symbols::WireSymbol;
+use symbols::{Symbol, WireSymbol};
 
 // A number is to be visited; or its links were visited, and now it has to be the next.
 #[derive(Clone, Copy)]
@@ -34,7 +29,7 @@ struct Walk {
 }
 
 fn from_place(place: Place) -> Task
-    ensures { λ r. ⌜ r ≡ task-of place ⌝ }
+    ensures { result ≡ task_of place }
 {
     if place.state == 0 {
         Task::Visit(place.list)
@@ -44,7 +39,7 @@ fn from_place(place: Place) -> Task
 }
 
 fn to_place(task: Task) -> Place
-    ensures { λ r. ⌜ r ≡ place-of task ⌝ }
+    ensures { result ≡ place_of task }
 {
     let (state, list) = match task {
         Task::Visit(n) => (0, n),
@@ -60,26 +55,26 @@ fn to_place(task: Task) -> Place
 }
 
 fn read_task(work: &[Place], i: usize) -> Task
-    requires { ⌜ i < length (now work) ⌝ }
-    ensures { λ r. ⌜ r ≡ task-at (now (work .entry)) i ⌝ }
+    requires { i < length work.now }
+    ensures { result ≡ task_at work.now i }
 {
     from_place(work[i])
 }
 
 fn write_task(work: &mut [Place], i: usize, task: Task)
-    requires { ⌜ i < length (now work) ⌝ }
-    ensures { λ _. ⌜ now (work .exit) ≡ set (now (work .entry)) i (place-of task) ⌝ }
+    requires { i < length work.old }
+    ensures { work.new ≡ slice_set work.old i (place_of task) }
 {
     work[i] = to_place(task);
 }
 
 // Does the last task that waits; nothing, where the vertices do not stand in order.
 fn step<S: WireSymbol>(records: &[u8], work: &mut [Place], walk: Walk) -> Option<Walk>
-    requires long { ⌜ length (now records) ≤ 16000000 ⌝ }
-    requires fits { ⌜ Fits (now work) (walk .height) ⌝ }
-    requires some { ⌜ 0 < walk .height ⌝ }
-    ensures down { λ r. ⌜ ComesDown (now (work .entry)) walk (now (work .exit)) r ⌝ }
-    ensures leads { λ r. ⌜ ((ds : List (Row S)) (k : ℕ) → ReadAs (travel (S·WireSymbol .kind) (S·WireSymbol .width) (S·WireSymbol .bytes) (S·WireSymbol .reads)) (now (records .entry)) ds → Leads ds k (now (work .entry)) walk (now (work .exit)) r) ⌝ }
+    requires long { length records.now ≤ 16000000 }
+    requires fits { Fits work.old walk.height }
+    requires some { 0 < walk.height }
+    ensures down { ComesDown work.old walk work.new result }
+    ensures leads { (ds : List (Row S)) (k : ℕ) → ReadAs (travel S.WireSymbol.kind S.WireSymbol.width S.WireSymbol.bytes S.WireSymbol.reads) records.now ds → Leads ds k work.old walk work.new result }
 {
     let Walk { height, passed } = walk;
     let top = height - 1;
@@ -122,10 +117,10 @@ pub(crate) fn in_order<S: WireSymbol>(
     root: u32,
     work: &mut [Place],
 ) -> bool
-    requires long { ⌜ length (now records) ≤ 16000000 ⌝ }
-    requires some { ⌜ 1 ≤ length (now work) ⌝ }
-    requires room { ⌜ 2 * root ≤ length (now work) ⌝ }
-    ensures { λ r. ⌜ ((ds : List (Row S)) → ReadAs (travel (S·WireSymbol .kind) (S·WireSymbol .width) (S·WireSymbol .bytes) (S·WireSymbol .reads)) (now (records .entry)) ds → (r ≡ true) ↔ Visits ds 0 root count) ⌝ }
+    requires long { length records.now ≤ 16000000 }
+    requires some { 1 ≤ length work.old }
+    requires room { 2 * root ≤ length work.old }
+    ensures { (ds : List (Row S)) → ReadAs (travel S.WireSymbol.kind S.WireSymbol.width S.WireSymbol.bytes S.WireSymbol.reads) records.now ds → (result ≡ true) ↔ Visits ds 0 root count }
 {
     write_task(work, 0, Task::Visit(root));
     let mut walk = Walk {

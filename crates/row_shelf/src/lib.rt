@@ -2,13 +2,13 @@
 //
 // A find costs a step for each vertex, so this shelf suits few vertices, or little memory: it takes no records beyond
 // the vertices. To look, to append and to cut cost one step, and to gather costs a step for each vertex.
-ghost use denote.Ref.{now};
-ghost use mathlib.Core.List.{[]};
-ghost use mathlib.Core.Path.{_≡_};
-ghost use Rattle·row_shelf·specs.Row.{row-bounds, row-capacity, row-vertices};
+#![tactic(auto)]
+
+ghost use Rattle.std.specs.Prelude.{◌≡◌, []};
+ghost use Rattle.row_shelf.specs.Row.{row_bounds, row_capacity, row_vertices};
+
 use ledger::Vertex;
-use memory::shelf::Full;
-use memory::shelf::Shelf;
+use memory::shelf::{Full, Shelf};
 use memory::work::Place;
 use symbols::Symbol;
 
@@ -24,22 +24,22 @@ pub struct RowShelf<'a, S> {
 impl<'a, S: Symbol> RowShelf<'a, S> {
     // An empty shelf over a run of records, whatever they hold.
     pub fn new(run: &'a mut [Vertex<S>]) -> RowShelf<'a, S>
-        ensures held { λ r. ⌜ now (r .run) ≡ now (run .entry) ⌝ }
-        ensures capacity { λ r. ⌜ row-capacity (now (r .run)) ≡ row-capacity (now (run .entry)) ⌝ }
-        ensures vertices { λ r. ⌜ row-vertices (r .used) (now (r .run)) ≡ [] ⌝ }
+        ensures held { result.run.now ≡ run.old }
+        ensures capacity { row_capacity result.run.now ≡ row_capacity run.old }
+        ensures vertices { row_vertices result.used result.run.now ≡ [] }
     {
         RowShelf { run, used: 0 }
     }
 }
 
-pub impl<'a, S: Symbol> Shelf<S> for RowShelf<'a, S> as RowShelfShelf {
-    ghost vertices = { λ s. row-vertices (s .used) (now (s .run)) };
+impl<'a, S: Symbol> Shelf<S> for RowShelf<'a, S> {
+    ghost vertices = { λ s. row_vertices s.used s.run.now };
 
-    ghost capacity = { λ s. row-capacity (now (s .run)) };
+    ghost capacity = { λ s. row_capacity s.run.now };
 
     ghost ready = { λ _. Unit {0} };
 
-    ghost bounds = { λ s. row-bounds (s .used) (now (s .run)) };
+    ghost bounds = { λ s. row_bounds s.used s.run.now };
 
     fn capacity(&self) -> u32 {
         run::capacity(self.run.len())

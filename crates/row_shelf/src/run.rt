@@ -1,23 +1,16 @@
 // What the shelf does, on the run of records that it is handed: the first `used` of them are its vertices.
-ghost use Prim.Native.Nat.{_≤_, min};
-ghost use lib.ListN.{length, take};
-ghost use mathlib.Core.Bool.{true};
-ghost use mathlib.Core.List.{List, map};
-ghost use mathlib.Core.Logic.{_↔_};
-ghost use mathlib.Core.Path.{_≡_};
-ghost use Rattle·std.specs.Options.{mapped};
-ghost use Rattle·ledger.specs.declared.Vertex.{Vertex};
-ghost use Rattle·ledger.specs.Diagrams.{look, parts};
-ghost use Rattle·ledger.specs.Gather.{keep};
-ghost use Rattle·ledger.specs.Laid.{First};
-ghost use Rattle·memory.specs.Marks.{noted-vertex, AllStay};
-ghost use Rattle·memory.specs.Shelves.{marks-in};
-ghost use Rattle·row_shelf·specs.Row.{row-vertices, Gathers, RowAppends};
+ghost use Rattle.std.specs.Prelude.{◌≡◌, ◌≤◌, min, true, ◌↔◌, List, map, length, take};
+ghost use Rattle.std.specs.Option.{option_map};
+ghost use Rattle.ledger.specs.declared.Vertex.{Vertex};
+ghost use Rattle.ledger.specs.Diagrams.{look, parts};
+ghost use Rattle.ledger.specs.Gather.{keep};
+ghost use Rattle.ledger.specs.Laid.{First};
+ghost use Rattle.memory.specs.Marks.{noted_vertex, AllStay};
+ghost use Rattle.memory.specs.Shelves.{marks_in};
+ghost use Rattle.row_shelf.specs.Row.{row_vertices, Gathers, RowAppends};
+
 use ledger::Vertex;
-use memory::marks::is_marked;
-use memory::marks::new_vertex;
-use memory::marks::number_marks;
-use memory::marks::vertex_stays;
+use memory::marks::{is_marked, new_vertex, number_marks, vertex_stays};
 use memory::reading::same_vertex;
 use memory::shelf::Full;
 use memory::work::Place;
@@ -25,14 +18,14 @@ use symbols::Symbol;
 
 // How many vertices so many records hold.
 pub(crate) fn capacity(records: usize) -> u32
-    ensures { λ r. ⌜ r ≡ min records 1000000 ⌝ }
+    ensures { result ≡ min records 1000000 }
 {
     records.min(1_000_000) as u32
 }
 
 pub(crate) fn look<S: Symbol>(run: &[Vertex<S>], used: u32, n: u32) -> Option<(S, u32, u32)>
-    requires { ⌜ used ≤ length (now run) ⌝ }
-    ensures { λ r. ⌜ r ≡ mapped parts (look (take used (now (run .entry))) n) ⌝ }
+    requires { used ≤ length run.now }
+    ensures { result ≡ option_map parts (look (take used run.now) n) }
 {
     if n < 2 {
         return None;
@@ -45,8 +38,8 @@ pub(crate) fn look<S: Symbol>(run: &[Vertex<S>], used: u32, n: u32) -> Option<(S
 }
 
 pub(crate) fn find<S: Symbol>(run: &[Vertex<S>], used: u32, wanted: Vertex<S>) -> Option<u32>
-    requires { ⌜ used ≤ length (now run) ⌝ ∗ ⌜ used ≤ 1000000 ⌝ }
-    ensures { λ r. ⌜ First (take used (now (run .entry))) wanted r ⌝ }
+    requires { (used ≤ length run.now) × (used ≤ 1000000) }
+    ensures { First (take used run.now) wanted result }
 {
     for i in 0..used {
         if same_vertex(run[i as usize], wanted) {
@@ -62,7 +55,7 @@ pub(crate) fn append<S: Symbol>(
     used: u32,
     vertex: Vertex<S>,
 ) -> Result<u32, Full>
-    ensures { λ r. ⌜ RowAppends used (now (run .entry)) vertex r (now (run .exit)) ⌝ }
+    ensures { RowAppends used run.old vertex result run.new }
 {
     let capacity = capacity(run.len());
     let used = used.min(capacity);
@@ -75,15 +68,15 @@ pub(crate) fn append<S: Symbol>(
 
 // How many records are used after a cut: of whatever run, its first n vertices.
 pub(crate) fn cut<S: Symbol>(used: u32, n: u32) -> u32
-    ensures { λ r. ⌜ ((run : List (Vertex S)) → row-vertices r run ≡ take n (row-vertices used run)) ⌝ }
+    ensures { (run : List (Vertex S)) → row_vertices result run ≡ take n (row_vertices used run) }
 {
     used.min(n)
 }
 
 // Whether each marked vertex has links to terminals and to marked vertices below it alone.
 pub(crate) fn all_stay<S: Symbol>(run: &[Vertex<S>], used: u32, marks: &[Place]) -> bool
-    requires { ⌜ used ≤ length (now run) ⌝ ∗ ⌜ used ≤ 1000000 ⌝ }
-    ensures { λ r. ⌜ (r ≡ true) ↔ AllStay (marks-in (now (marks .entry))) (take used (now (run .entry))) ⌝ }
+    requires { (used ≤ length run.now) × (used ≤ 1000000) }
+    ensures { (result ≡ true) ↔ AllStay (marks_in marks.now) (take used run.now) }
 {
     for i in 0..used {
         if !vertex_stays(marks, i + 2, run[i as usize]) {
@@ -95,9 +88,9 @@ pub(crate) fn all_stay<S: Symbol>(run: &[Vertex<S>], used: u32, marks: &[Place])
 
 // Moves the marked vertices to the front, their links renumbered from the places, and says how many there are.
 pub(crate) fn keep<S: Symbol>(run: &mut [Vertex<S>], used: u32, marks: &[Place]) -> u32
-    requires { ⌜ used ≤ length (now run) ⌝ ∗ ⌜ used ≤ 1000000 ⌝ ∗ ⌜ length (now marks) ≡ used ⌝ }
-    ensures few { λ r. ⌜ r ≤ used ⌝ }
-    ensures vertices { λ r. ⌜ take r (now (run .exit)) ≡ map (noted-vertex (now (marks .entry))) (keep (marks-in (now (marks .entry))) (take used (now (run .entry)))) ⌝ }
+    requires { (used ≤ length run.old) × ((used ≤ 1000000) × (length marks.now ≡ used)) }
+    ensures few { result ≤ used }
+    ensures vertices { take result run.new ≡ map (noted_vertex marks.now) (keep (marks_in marks.now) (take used run.old)) }
 {
     let mut to: u32 = 0;
     for i in 0..used {
@@ -116,8 +109,8 @@ pub(crate) fn gather<S: Symbol>(
     used: u32,
     marks: &mut [Place],
 ) -> Option<u32>
-    requires { ⌜ used ≤ length (now run) ⌝ ∗ ⌜ used ≤ 1000000 ⌝ }
-    ensures { λ r. ⌜ Gathers used (now (run .entry)) (now (marks .entry)) r (now (run .exit)) (now (marks .exit)) ⌝ }
+    requires { (used ≤ length run.old) × (used ≤ 1000000) }
+    ensures { Gathers used run.old marks.old result run.new marks.new }
 {
     if marks.len() != used as usize {
         return None;

@@ -3,20 +3,21 @@
 // By its cases and a number of full range, no value of the type is no step. A code of steps has a text such as T3/B20/P7: the
 // letter of each unit and the number in decimal, with slashes between. Reading looks at each byte twice, and writing at each
 // step twice: first to see that the call can succeed, since one that is refused changes nothing.
-ghost use Prim.Native.Nat.{_+_, _*_, _%_, _^_};
-ghost use mathlib.Core.Path.{_≡_};
-ghost use Rattle·texts.specs.Texts.{ReadTo};
-ghost use Rattle·steps·specs.Paths.{text-of, Exact};
-ghost use Rattle·steps·specs.Stages.{spelled};
-ghost use Rattle·steps·specs.Units.{unit-byte, unit-of, earlier, step-bytes, step-of, unit-letter, unit-of-letter};
+#![tactic(auto)]
+
+ghost use Rattle.std.specs.Prelude.{◌≡◌, ◌+◌, ◌*◌, ◌%◌, ◌^◌, refl};
+ghost use Rattle.texts.specs.Texts.{ReadTo};
+ghost use Rattle.steps.specs.Paths.{text_of, Exact};
+ghost use Rattle.steps.specs.Stages.{spelled};
+ghost use Rattle.steps.specs.Units.{unit_byte, unit_of, earlier, step_bytes, step_of, unit_letter, unit_of_letter};
+ghost use Rattle.steps.specs.UnitsLemmas.{step_order, step_back, step_own};
+ghost use Rattle.std.proofs.Common.{arith};
+ghost use Rattle.steps.specs.Spelling.{own_text};
+
 use crate::reading::read_steps;
 use crate::writing::write_steps;
-use symbols::Symbol;
-use symbols::SymbolFault;
-use symbols::WireSymbol;
-use texts::ShortText;
-use texts::TextFault;
-use texts::TextSymbol;
+use symbols::{Symbol, SymbolFault, WireSymbol};
+use texts::{ShortText, TextFault, TextSymbol};
 
 mod reading;
 mod writing;
@@ -47,7 +48,7 @@ pub struct Step {
 impl Unit {
     // The unit of a byte.
     pub fn from_byte(b: u8) -> Result<Unit, SymbolFault>
-        ensures { λ r. ⌜ r ≡ unit-of b ⌝ }
+        ensures { result ≡ unit_of b }
     {
         let unit = match b {
             1 => Unit::Site,
@@ -64,14 +65,14 @@ impl Unit {
 
     // The byte of a unit.
     pub fn to_byte(self) -> u8
-        ensures { λ r. ⌜ r ≡ unit-byte self ⌝ }
+        ensures { result ≡ unit_byte self }
     {
         self as u8
     }
 
     // The unit that a letter stands for in a text.
     pub fn from_letter(c: char) -> Option<Unit>
-        ensures { λ r. ⌜ r ≡ unit-of-letter c ⌝ }
+        ensures { result ≡ unit_of_letter c }
     {
         match c {
             'S' => Some(Unit::Site),
@@ -87,7 +88,7 @@ impl Unit {
 
     // The letter of a unit in a text.
     pub fn to_letter(self) -> u8
-        ensures { λ r. ⌜ r ≡ unit-letter self ⌝ }
+        ensures { result ≡ unit_letter self }
     {
         match self {
             Unit::Site => b'S',
@@ -101,10 +102,12 @@ impl Unit {
     }
 }
 
-pub impl Symbol for Step as StepSymbol {
+impl Symbol for Step {
     ghost before = { earlier };
 
-    ghost scatter = { λ s. (unit-byte (s .unit) * 65536 + s .number) * 2654435761 % 2 ^ 32 };
+    ghost scatter = { λ s. (unit_byte s.unit * 65536 + s.number) * 2654435761 % 2 ^ 32 };
+
+    ghost ordered = { step_order };
 
     fn before(self, other: Step) -> bool {
         let a = self.unit.to_byte();
@@ -117,14 +120,23 @@ pub impl Symbol for Step as StepSymbol {
     }
 }
 
-pub impl WireSymbol for Step as StepWire {
+impl WireSymbol for Step {
     ghost kind = { 2 };
 
     ghost width = { 3 };
 
-    ghost bytes = { step-bytes };
+    ghost bytes = { step_bytes };
 
-    ghost reads = { step-of };
+    ghost reads = { step_of };
+
+    ghost wired = { record {
+      one_byte = omega arith;
+      some = omega arith;
+      few = omega arith;
+      long = λ s. refl;
+      back = step_back;
+      own = step_own;
+    } };
 
     fn kind() -> u8 {
         KIND
@@ -148,15 +160,17 @@ pub impl WireSymbol for Step as StepWire {
     }
 }
 
-pub impl TextSymbol for Step as StepText {
+impl TextSymbol for Step {
     ghost spells = { spelled };
 
-    ghost text = { text-of };
+    ghost text = { text_of };
+
+    ghost own = { own_text };
 
     // Reads twice: first with no room at all, to see that the text can be read.
     fn read_code(from: &[u8], out: &mut [Step]) -> Result<usize, TextFault>
-        ensures answer { λ r. ⌜ ReadTo (spelled (now (from .entry))) (now (out .entry)) r (now (out .exit)) ⌝ }
-        ensures exact { λ _. ⌜ Exact (now (from .entry)) (spelled (now (from .entry))) ⌝ }
+        ensures answer { ReadTo (spelled from.now) out.old result out.new }
+        ensures exact { Exact from.now (spelled from.now) }
     {
         read_steps(from, &mut [])?;
         read_steps(from, out)

@@ -1,15 +1,13 @@
 // Reading a code of steps from its text, one byte after another.
 //
 // A byte takes the reading from one stage to the next, or makes the text unreadable.
-ghost use Prim.Native.Nat.{_+_, _<_, _^_};
-ghost use mathlib.Core.Path.{_≡_};
-ghost use Rattle·texts.specs.Texts.{Begun};
-ghost use Rattle·steps·specs.Paths.{Exact};
-ghost use Rattle·steps·specs.Stages.{digit-of, grown, turned, Kept, spelled};
-use crate::Step;
-use crate::Unit;
-use texts::TextFault;
-use texts::put;
+ghost use Rattle.std.specs.Prelude.{◌≡◌, ◌+◌, ◌^◌, ◌<◌};
+ghost use Rattle.texts.specs.Texts.{Begun};
+ghost use Rattle.steps.specs.Paths.{Exact};
+ghost use Rattle.steps.specs.Stages.{digit_of, grown, turned, Kept, spelled};
+
+use crate::{Step, Unit};
+use texts::{TextFault, put};
 
 // What is read of a step: nothing, its letter, or its letter and a digit or more.
 #[derive(Clone, Copy)]
@@ -27,7 +25,7 @@ pub struct Turn {
 }
 
 fn digit_of(b: u8) -> Option<u16>
-    ensures { λ r. ⌜ r ≡ digit-of b ⌝ }
+    ensures { result ≡ digit_of b }
 {
     match b {
         b'0'..=b'9' => Some(u16::from(b - b'0')),
@@ -37,7 +35,7 @@ fn digit_of(b: u8) -> Option<u16>
 
 // One digit more: none after a leading zero, and none past 16 bits.
 fn push_digit(number: u16, b: u8) -> Option<u16>
-    ensures { λ r. ⌜ r ≡ grown number b ⌝ }
+    ensures { result ≡ grown number b }
 {
     let digit = digit_of(b)?;
     if number == 0 {
@@ -48,7 +46,7 @@ fn push_digit(number: u16, b: u8) -> Option<u16>
 
 // What a byte does at a stage.
 fn read_byte(stage: Stage, b: u8) -> Option<Turn>
-    ensures { λ r. ⌜ r ≡ turned stage b ⌝ }
+    ensures { result ≡ turned stage b }
 {
     match stage {
         Stage::Start => {
@@ -71,7 +69,7 @@ fn read_byte(stage: Stage, b: u8) -> Option<Turn>
 
 // What a byte does after a digit: it is another, or the slash that ends the step.
 fn read_in_number(step: Step, b: u8) -> Option<Turn>
-    ensures { λ r. ⌜ r ≡ turned (Stage.Numbered step) b ⌝ }
+    ensures { result ≡ turned (Stage.Numbered step) b }
 {
     if b == b'/' {
         return Some(Turn {
@@ -91,8 +89,8 @@ fn read_in_number(step: Step, b: u8) -> Option<Turn>
 
 // Keeps a step that has ended, if one has, and answers how many have.
 fn keep(done: Option<Step>, count: usize, out: &mut [Step]) -> usize
-    requires { ⌜ count + 1 < 2 ^ 64 ⌝ }
-    ensures { λ r. ⌜ Kept done count (now (out .entry)) r (now (out .exit)) ⌝ }
+    requires { count + 1 < 2 ^ 64 }
+    ensures { Kept done count out.old result out.new }
 {
     match done {
         None => count,
@@ -105,8 +103,8 @@ fn keep(done: Option<Step>, count: usize, out: &mut [Step]) -> usize
 
 // Reads the steps of a text to the start of `out`, as far as there is room, up to the first byte that is out of place.
 pub fn read_steps(from: &[u8], out: &mut [Step]) -> Result<usize, TextFault>
-    ensures answer { λ r. ⌜ Begun (spelled (now (from .entry))) (now (out .entry)) r (now (out .exit)) ⌝ }
-    ensures exact { λ _. ⌜ Exact (now (from .entry)) (spelled (now (from .entry))) ⌝ }
+    ensures answer { Begun (spelled from.now) out.old result out.new }
+    ensures exact { Exact from.now (spelled from.now) }
 {
     if from.len() == 0 {
         return Ok(0);

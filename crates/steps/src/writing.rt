@@ -1,25 +1,18 @@
 // Writing a code of steps as its text.
 //
 // The length is found first, so that nothing is written where there is too little room.
-ghost use Prim.Native.Nat.{_+_, _≤_};
-ghost use lib.ListN.{length};
-ghost use mathlib.Core.List.{_∷_};
-ghost use mathlib.Core.Logic.{_↔_};
-ghost use mathlib.Core.Bool.{true};
-ghost use mathlib.Core.Path.{_≡_};
-ghost use Rattle·std.specs.Vec.{made};
-ghost use Rattle·std.specs.Written.{decimal};
-ghost use Rattle·std.specs.declared.result.Result.the-variants.{Ok};
-ghost use Rattle·texts.specs.Texts.{WrittenTo};
-ghost use Rattle·steps·specs.Paths.{step-text, text-of, laid, Short};
-ghost use Rattle·steps·specs.Stages.{spelled};
+ghost use Rattle.std.specs.Prelude.{◌≡◌, ◌+◌, ◌≤◌, true, ◌↔◌, ◌∷◌, length, Ok, decimal, OnOk};
+ghost use Rattle.texts.specs.Texts.{WrittenTo};
+ghost use Rattle.steps.specs.Paths.{step_text, text_of, laid, Short};
+ghost use Rattle.steps.specs.Stages.{spelled};
+
 use crate::Step;
 use texts::ShortText;
 
 // How many digits a number has.
 fn digits(n: u16) -> usize
-    ensures value { λ r. ⌜ r ≡ length (decimal n) ⌝ }
-    ensures few { λ r. ⌜ r ≤ 5 ⌝ }
+    ensures value { result ≡ length (decimal n) }
+    ensures few { result ≤ 5 }
 {
     match n {
         0..=9 => 1,
@@ -32,9 +25,9 @@ fn digits(n: u16) -> usize
 
 // Writes a number in decimal from `at` on, the last digit first, and answers where it ends.
 fn write_number(number: u16, out: &mut [u8], at: usize) -> usize
-    requires { ⌜ at + length (decimal number) ≤ length (now out) ⌝ }
-    ensures value { λ r. ⌜ r ≡ at + length (decimal number) ⌝ }
-    ensures after { λ _. ⌜ now (out .exit) ≡ laid at (decimal number) (now (out .entry)) ⌝ }
+    requires { at + length (decimal number) ≤ length out.old }
+    ensures value { result ≡ at + length (decimal number) }
+    ensures after { out.new ≡ laid at (decimal number) out.old }
 {
     let end = at + digits(number);
     let mut n = number;
@@ -50,10 +43,10 @@ fn write_number(number: u16, out: &mut [u8], at: usize) -> usize
 
 // Writes a step from `at` on, and answers where it ends.
 fn write_step(step: Step, out: &mut [u8], at: usize) -> usize
-    requires { ⌜ at + length (step-text step) ≤ length (now out) ⌝ }
-    ensures value { λ r. ⌜ r ≡ at + length (step-text step) ⌝ }
-    ensures after { λ _. ⌜ now (out .exit) ≡ laid at (step-text step) (now (out .entry)) ⌝ }
-    ensures short { λ _. ⌜ Short step ⌝ }
+    requires { at + length (step_text step) ≤ length out.old }
+    ensures value { result ≡ at + length (step_text step) }
+    ensures after { out.new ≡ laid at (step_text step) out.old }
+    ensures short { Short step }
 {
     out[at] = step.unit.to_letter();
     write_number(step.number, out, at + 1)
@@ -61,7 +54,7 @@ fn write_step(step: Step, out: &mut [u8], at: usize) -> usize
 
 // Whether there is room for the text of a code that begins with `first` and goes on with `rest`.
 fn fits(first: Step, rest: &[Step], room: usize) -> bool
-    ensures { λ r. ⌜ (r ≡ true) ↔ (length (text-of (first ∷ now (rest .entry))) ≤ room) ⌝ }
+    ensures { (result ≡ true) ↔ (length (text_of (first ∷ rest.now)) ≤ room) }
 {
     let Some(mut left) = room.checked_sub(1 + digits(first.number)) else {
         return false;
@@ -77,8 +70,8 @@ fn fits(first: Step, rest: &[Step], room: usize) -> bool
 
 // Writes the text of a code to the start of `out`, and answers its length.
 pub fn write_steps(code: &[Step], out: &mut [u8]) -> Result<usize, ShortText>
-    ensures answer { λ r. ⌜ WrittenTo (text-of (now (code .entry))) (now (out .entry)) r (now (out .exit)) ⌝ }
-    ensures back { λ r. ⌜ made r (λ _. spelled (text-of (now (code .entry))) ≡ Ok (now (code .entry))) ⌝ }
+    ensures answer { WrittenTo (text_of code.now) out.old result out.new }
+    ensures back { OnOk result (spelled (text_of code.now) ≡ Ok code.now) }
 {
     let Some((first, rest)) = code.split_first() else {
         return Ok(0);

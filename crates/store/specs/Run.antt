@@ -1,53 +1,44 @@
 -- Runs: any finite list of calls on one store from its fitting out on, refused ones included, each with any arguments
 -- and any memory; and what is promised of every run.
-use mathlib.Core.Path.{_≡_}
-use mathlib.Core.Bool.{Bool}
-use mathlib.Core.List.{List, []}
-use mathlib.Core.Logic.{_↔_, _⊎_}
-use Prim.Native.Nat.{ℕ, _≤_}
-use lib.ListN.{length, take}
-use Rattle·std.specs.declared.option.Option.{Option}
-use Rattle·std.specs.declared.option.Option.the-variants.{Some}
-use Rattle·std.specs.declared.result.Result.{Result}
-use Rattle·std.specs.declared.result.Result.the-variants.{Ok, Err}
-use Rattle·symbols.specs.Wire.{Travel}
-use Rattle·ledger.specs.declared.Vertex.{Vertex}
-use Rattle·ledger.specs.Diagrams.{Good, SameCodes, Reached, Counts, IsDiagram}
-use Rattle·memory.specs.declared.work.Place.{Place}
-use Rattle·wire.specs.declared.faults.ReceiveFault.{ReceiveFault}
-use Rattle·wire.specs.declared.faults.ReceiveFault.the-variants as receiving
-use Rattle·store·specs.declared.fault.Fault.{Fault}
-use Rattle·store·specs.State.{State, Forgotten}
-use Rattle·store·specs.Calls.{Adds, Removes, Joins, Unders, Holds, Looks, CountsCodes, CountsVertices, Picks, ClearsOut, Writes, Receives}
+use Rattle.std.specs.Prelude.{◌≡◌, ℕ, ◌≤◌, Bool, ◌⊎◌, ◌↔◌, List, [], length, take, Some, Ok, Err, Option, Result}
+use Rattle.symbols.specs.Wire.{Travel}
+use Rattle.ledger.specs.declared.Vertex.{Vertex}
+use Rattle.ledger.specs.Diagrams.{Good, SameCodes, Reached, Counts, IsDiagram}
+use Rattle.memory.specs.declared.work.Place.{Place}
+use Rattle.wire.specs.declared.faults.ReceiveFault.{ReceiveFault}
+use Rattle.wire.specs.declared.faults.ReceiveFault.TheVariants as receiving
+use Rattle.store.specs.declared.fault.Fault.{Fault}
+use Rattle.store.specs.State.{State, Forgotten}
+use Rattle.store.specs.Calls.{Adds, Removes, Joins, Unders, Holds, Looks, CountsCodes, CountsVertices, Picks, ClearsOut, Writes, Receives}
 
 -- the states that runs lead to. Where symbols travel, `travel` says how; a run of other symbols has no use for it.
 pub data Run {S : Type 0} (before : S → S → Bool) (travel : Option (Travel S)) (capacity : ℕ) : State S → Type 0 where
   -- fitting out, whatever shelf and table held before: no vertex, no entry
-  fitted-out : {s : State S} → capacity ≤ 1000000 → s .vertices ≡ [] → Forgotten (s .table) → Run before travel capacity s
-  adds : {s′ : State S} (s : State S) (list : ℕ) (code : List S) (work : List Place) (r : Result ℕ Fault) →
-      Run before travel capacity s → Adds before capacity s list code work r s′ → Run before travel capacity s′
-  removes : {s′ : State S} (s : State S) (list : ℕ) (code : List S) (work : List Place) (r : Result ℕ Fault) →
-      Run before travel capacity s → Removes before capacity s list code work r s′ → Run before travel capacity s′
-  joins : {s′ : State S} (s : State S) (rule first second : ℕ) (work : List Place) (r : Result ℕ Fault) →
-      Run before travel capacity s → Joins before capacity s rule first second work r s′ → Run before travel capacity s′
-  clears-out : {s′ : State S} (s : State S) (keep : List ℕ) (work : List Place) (r : Result ℕ Fault) (keep′ : List ℕ) →
-      Run before travel capacity s → ClearsOut before capacity s keep work r s′ keep′ → Run before travel capacity s′
+  fitted_out : {s : State S} → capacity ≤ 1000000 → s.vertices ≡ [] → Forgotten s.table → Run before travel capacity s
+  adds : {s' : State S} (s : State S) (list : ℕ) (code : List S) (work : List Place) (r : Result ℕ Fault) →
+      Run before travel capacity s → Adds before capacity s list code work r s' → Run before travel capacity s'
+  removes : {s' : State S} (s : State S) (list : ℕ) (code : List S) (work : List Place) (r : Result ℕ Fault) →
+      Run before travel capacity s → Removes before capacity s list code work r s' → Run before travel capacity s'
+  joins : {s' : State S} (s : State S) (rule first second : ℕ) (work : List Place) (r : Result ℕ Fault) →
+      Run before travel capacity s → Joins before capacity s rule first second work r s' → Run before travel capacity s'
+  clears_out : {s' : State S} (s : State S) (keep : List ℕ) (work : List Place) (r : Result ℕ Fault) (keep' : List ℕ) →
+      Run before travel capacity s → ClearsOut before capacity s keep work r s' keep' → Run before travel capacity s'
   unders : {s : State S} (list : ℕ) (code : List S) (r : Result ℕ Fault) →
       Run before travel capacity s → Unders before capacity s list code r → Run before travel capacity s
   holds : {s : State S} (list : ℕ) (code : List S) (r : Result Bool Fault) →
       Run before travel capacity s → Holds before capacity s list code r → Run before travel capacity s
   looks : {s : State S} (n : ℕ) (r : Option (S × ℕ × ℕ)) →
       Run before travel capacity s → Looks before capacity s n r → Run before travel capacity s
-  counts-codes : {s : State S} (list : ℕ) (work : List Place) (r : Result ℕ Fault) →
+  counts_codes : {s : State S} (list : ℕ) (work : List Place) (r : Result ℕ Fault) →
       Run before travel capacity s → CountsCodes before capacity s list work r → Run before travel capacity s
-  counts-vertices : {s : State S} (list : ℕ) (work : List Place) (r : Result ℕ Fault) →
+  counts_vertices : {s : State S} (list : ℕ) (work : List Place) (r : Result ℕ Fault) →
       Run before travel capacity s → CountsVertices before capacity s list work r → Run before travel capacity s
-  picks : {s : State S} (list k : ℕ) (out : List S) (work : List Place) (r : Result ℕ Fault) (out′ : List S) →
-      Run before travel capacity s → Picks before capacity s list k out work r out′ → Run before travel capacity s
-  writes : {s : State S} (t : Travel S) (list : ℕ) (out : List ℕ) (work : List Place) (r : Result ℕ Fault) (out′ : List ℕ) →
-      travel ≡ Some t → Run before travel capacity s → Writes before capacity t s list out work r out′ → Run before travel capacity s
-  receives : {s′ : State S} (s : State S) (t : Travel S) (bytes : List ℕ) (work : List Place) (r : Result ℕ ReceiveFault) →
-      travel ≡ Some t → Run before travel capacity s → Receives before capacity t s bytes work r s′ → Run before travel capacity s′
+  picks : {s : State S} (list k : ℕ) (out : List S) (work : List Place) (r : Result ℕ Fault) (out' : List S) →
+      Run before travel capacity s → Picks before capacity s list k out work r out' → Run before travel capacity s
+  writes : {s : State S} (t : Travel S) (list : ℕ) (out : List ℕ) (work : List Place) (r : Result ℕ Fault) (out' : List ℕ) →
+      travel ≡ Some t → Run before travel capacity s → Writes before capacity t s list out work r out' → Run before travel capacity s
+  receives : {s' : State S} (s : State S) (t : Travel S) (bytes : List ℕ) (work : List Place) (r : Result ℕ ReceiveFault) →
+      travel ≡ Some t → Run before travel capacity s → Receives before capacity t s bytes work r s' → Run before travel capacity s'
 
 -- a store that a run led to: its shelf is ready, and its state is that of the run
 pub record Stands {S : Type 0} (before : S → S → Bool) (travel : Option (Travel S)) (capacity : ℕ) (Ready : Type 0) (s : State S) : Type 0 where
@@ -56,13 +47,13 @@ pub record Stands {S : Type 0} (before : S → S → Bool) (travel : Option (Tra
 
 -- from wherever a run led to, the call takes this step, and the run goes on
 abbrev pub Goes : {S : Type 0} → (S → S → Bool) → ℕ → Type 0 → State S → Type 0 → State S → Type 0 → Type 0
-Goes {S} before capacity Ready s Ready′ s′ Step =
-    (travel : Option (Travel S)) → Stands before travel capacity Ready s → Step × Stands before travel capacity Ready′ s′
+Goes {S} before capacity Ready s Ready' s' Step =
+    (travel : Option (Travel S)) → Stands before travel capacity Ready s → Step × Stands before travel capacity Ready' s'
 
 -- the same, for a call that only symbols have which travel: from wherever a run of these led to
 abbrev pub Travels : {S : Type 0} → (S → S → Bool) → Travel S → ℕ → Type 0 → State S → Type 0 → State S → Type 0 → Type 0
-Travels before t capacity Ready s Ready′ s′ Step =
-    Stands before (Some t) capacity Ready s → Step × Stands before (Some t) capacity Ready′ s′
+Travels before t capacity Ready s Ready' s' Step =
+    Stands before (Some t) capacity Ready s → Step × Stands before (Some t) capacity Ready' s'
 
 -- two good numbers are equal exactly when they have the same codes
 abbrev pub NumbersAreLists : {S : Type 0} → List (Vertex S) → Type 0
@@ -78,7 +69,7 @@ NoneSmaller {S} before vs =
 abbrev pub NumberIsList : {S : Type 0} → (S → S → Bool) → ℕ → Type 0
 NumberIsList {S} before capacity =
     (travel : Option (Travel S)) (s : State S) → Run before travel capacity s →
-    NumbersAreLists (s .vertices) × NoneSmaller before (s .vertices)
+    NumbersAreLists s.vertices × NoneSmaller before s.vertices
 
 -- from wherever a run led to, a call that only reads answers this
 abbrev pub Asks : {S : Type 0} → (S → S → Bool) → ℕ → Type 0 → State S → Type 0 → Type 0
@@ -88,27 +79,27 @@ Asks {S} before capacity Ready s Answer = (travel : Option (Travel S)) → Stand
 -- compared, exactly when they have the same codes; whatever the stores' shelves, tables, capacities and runs
 abbrev pub WrittenAlike : {S : Type 0} → (S → S → Bool) → Travel S → Type 0
 WrittenAlike {S} before travel =
-    (capacity capacity′ : ℕ) (s s′ : State S) → Run before (Some travel) capacity s → Run before (Some travel) capacity′ s′ →
-    (m n : ℕ) (out out′ : List ℕ) (work work′ : List Place) (length length′ : ℕ) (exit exit′ : List ℕ) →
-    Writes before capacity travel s m out work (Ok length) exit → Writes before capacity′ travel s′ n out′ work′ (Ok length′) exit′ →
-    (take length exit ≡ take length′ exit′) ↔ SameCodes (s .vertices) m (s′ .vertices) n
+    (capacity capacity' : ℕ) (s s' : State S) → Run before (Some travel) capacity s → Run before (Some travel) capacity' s' →
+    (m n : ℕ) (out out' : List ℕ) (work work' : List Place) (length length' : ℕ) (exit exit' : List ℕ) →
+    Writes before capacity travel s m out work (Ok length) exit → Writes before capacity' travel s' n out' work' (Ok length') exit' →
+    (take length exit ≡ take length' exit') ↔ SameCodes s.vertices m s'.vertices n
 
 -- received under a number with the same codes, or refused for want of work space or of places on the shelf alone
 abbrev pub TakenBack : {S : Type 0} → State S → ℕ → Result ℕ ReceiveFault → State S → Type 0
-TakenBack s m (Ok n) s′ = Good (s′ .vertices) n × SameCodes (s .vertices) m (s′ .vertices) n
-TakenBack s m (Err fault) s′ = (fault ≡ receiving.LittleWork) ⊎ (fault ≡ receiving.ShelfFull)
+TakenBack s m (Ok n) s' = Good s'.vertices n × SameCodes s.vertices m s'.vertices n
+TakenBack s m (Err fault) s' = (fault ≡ receiving.LittleWork) ⊎ (fault ≡ receiving.ShelfFull)
 
 -- receiving what was written gives the list back, whatever the two stores' shelves, tables, capacities and runs
 abbrev pub ReceivedBack : {S : Type 0} → (S → S → Bool) → Travel S → Type 0
 ReceivedBack {S} before travel =
-    (capacity capacity′ : ℕ) (s t t′ : State S) → Run before (Some travel) capacity s → Run before (Some travel) capacity′ t →
+    (capacity capacity' : ℕ) (s t t' : State S) → Run before (Some travel) capacity s → Run before (Some travel) capacity' t →
     (m : ℕ) (out : List ℕ) (work : List Place) (length : ℕ) (exit : List ℕ) → Writes before capacity travel s m out work (Ok length) exit →
-    (work′ : List Place) (r : Result ℕ ReceiveFault) → Receives before capacity′ travel t (take length exit) work′ r t′ → TakenBack s m r t′
+    (work' : List Place) (r : Result ℕ ReceiveFault) → Receives before capacity' travel t (take length exit) work' r t' → TakenBack s m r t'
 
 -- writing what was received gives the bytes back
 abbrev pub WrittenBack : {S : Type 0} → (S → S → Bool) → Travel S → Type 0
 WrittenBack {S} before travel =
-    (capacity : ℕ) (s s′ : State S) → Run before (Some travel) capacity s →
-    (bytes : List ℕ) (work : List Place) (n : ℕ) → Receives before capacity travel s bytes work (Ok n) s′ →
-    (out : List ℕ) (work′ : List Place) (length : ℕ) (exit : List ℕ) → Writes before capacity travel s′ n out work′ (Ok length) exit →
+    (capacity : ℕ) (s s' : State S) → Run before (Some travel) capacity s →
+    (bytes : List ℕ) (work : List Place) (n : ℕ) → Receives before capacity travel s bytes work (Ok n) s' →
+    (out : List ℕ) (work' : List Place) (length : ℕ) (exit : List ℕ) → Writes before capacity travel s' n out work' (Ok length) exit →
     take length exit ≡ bytes

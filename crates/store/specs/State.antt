@@ -1,19 +1,10 @@
 -- A store as its calls see it, and the checks that a call makes first.
-use mathlib.Core.Path.{_≡_}
-use mathlib.Core.Bool.{Bool, true, false, cond}
-use mathlib.Core.List.{List, [], _∷_}
-use Prim.Native.Nat.{ℕ, suc, _+_, _*_, _<_, _≤_}
-use lib.Dec.{ltb}
-use lib.ListN.{length}
-use Rattle·std.specs.declared.option.Option.{Option}
-use Rattle·std.specs.declared.option.Option.the-variants.{Some, None}
-use Rattle·std.specs.declared.result.Result.{Result}
-use Rattle·std.specs.declared.result.Result.the-variants.{Ok, Err}
-use Rattle·ledger.specs.declared.Vertex.{Vertex}
-use Rattle·memory.specs.declared.recall.Question.{Question}
-use Rattle·memory.specs.declared.work.Place.{Place}
-use Rattle·store·specs.declared.fault.Fault.{Fault}
-use Rattle·store·specs.declared.fault.Fault.the-variants.{NoSuchList, CodeTooLong, NoSuchRule, ShortOutput, LittleWork, TooManyCodes, NoSuchCode, ShelfFull}
+use Rattle.std.specs.Prelude.{◌≡◌, ℕ, suc, ◌+◌, ◌*◌, Bool, cond, List, [], ◌∷◌, length, Some, None, Ok, Err, Option, Result, nat_lt}
+use Rattle.ledger.specs.declared.Vertex.{Vertex}
+use Rattle.memory.specs.declared.recall.Question.{Question}
+use Rattle.memory.specs.declared.work.Place.{Place}
+use Rattle.store.specs.declared.fault.Fault.{Fault}
+use Rattle.store.specs.declared.fault.Fault.TheVariants.{NoSuchList, CodeTooLong, ShortOutput, LittleWork}
 
 -- the vertices on the shelf, and the recall table
 pub record State (S : Type 0) : Type 0 where
@@ -32,21 +23,21 @@ abbrev pub check : Bool → Fault → Option Fault → Option Fault
 check fails fault behind = cond fails (Some fault) behind
 
 -- the call's list numbers, counted from `place`, are good: up to used + 1
-abbrev pub check-lists : {S : Type 0} → List (Vertex S) → ℕ → List ℕ → Option Fault → Option Fault
-check-lists vs place [] behind = behind
-check-lists vs place (n ∷ ns) behind = check (ltb (length vs + 1) n) (NoSuchList place) (check-lists vs (suc place) ns behind)
+abbrev pub check_lists : {S : Type 0} → List (Vertex S) → ℕ → List ℕ → Option Fault → Option Fault
+check_lists vs place [] behind = behind
+check_lists vs place (n ∷ ns) behind = check (nat_lt (length vs + 1) n) (NoSuchList place) (check_lists vs (suc place) ns behind)
 
 -- the code has at most 64 symbols
-abbrev pub check-code : {S : Type 0} → List S → Option Fault → Option Fault
-check-code code behind = check (ltb 64 (length code)) CodeTooLong behind
+abbrev pub check_code : {S : Type 0} → List S → Option Fault → Option Fault
+check_code code behind = check (nat_lt 64 (length code)) CodeTooLong behind
 
 -- there are 2 × capacity + 256 places of work space
-abbrev pub check-work : ℕ → List Place → Option Fault → Option Fault
-check-work capacity work behind = check (ltb (length work) (2 * capacity + 256)) LittleWork behind
+abbrev pub check_work : ℕ → List Place → Option Fault → Option Fault
+check_work capacity work behind = check (nat_lt (length work) (2 * capacity + 256)) LittleWork behind
 
 -- the output has room for 64 symbols
-abbrev pub check-output : {S : Type 0} → List S → Option Fault → Option Fault
-check-output out behind = check (ltb (length out) 64) ShortOutput behind
+abbrev pub check_output : {S : Type 0} → List S → Option Fault → Option Fault
+check_output out behind = check (nat_lt (length out) 64) ShortOutput behind
 
 -- refused by a check, or this answer
 abbrev pub answered : {A : Type 0} → Option Fault → A → Result A Fault
@@ -55,5 +46,5 @@ answered (Some fault) a = Err fault
 
 -- refused by a check, and nothing changes; or what comes then
 abbrev pub Checked : {A F : Type 0} → Option F → Result A F → Type 0 → Type 0 → Type 0
-Checked None r nothing-changes then = then
-Checked (Some fault) r nothing-changes then = (r ≡ Err fault) × nothing-changes
+Checked None r nothing_changes then = then
+Checked (Some fault) r nothing_changes then = (r ≡ Err fault) × nothing_changes

@@ -1,6 +1,7 @@
 // Why a call of the store is refused.
-ghost use mathlib.Core.Path.{_≡_};
-ghost use Rattle·store·specs.Refusals.{refusal, from-pick};
+ghost use Rattle.std.specs.Prelude.{◌≡◌};
+ghost use Rattle.store.specs.Refusals.{refusal, from_pick};
+
 use counting::picking::PickFault;
 use symbols::Refusal;
 
@@ -24,8 +25,8 @@ pub enum Fault {
     ShelfFull,
 }
 
-pub impl From<PickFault> for Fault as FaultFromPick {
-    ghost converts = { λ e r. r ≡ from-pick e };
+impl From<PickFault> for Fault {
+    ghost from_gives = { λ e r. r ≡ from_pick e };
 
     fn from(e: PickFault) -> Fault {
         match e {
@@ -37,7 +38,7 @@ pub impl From<PickFault> for Fault as FaultFromPick {
 
 impl Fault {
     pub fn refusal(self) -> Refusal
-        ensures { λ r. ⌜ r ≡ refusal self ⌝ }
+        ensures { result ≡ refusal self }
     {
         let (number, detail) = match self {
             Fault::NoSuchList { place } => (2, place),

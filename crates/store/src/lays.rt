@@ -1,27 +1,23 @@
 // The calls that lay a list down. Each says its list as a set, which refusal comes first, and that a refusal leaves the
 // vertices as they were.
-ghost use Prim.Native.Nat.{ℕ, _+_, _*_, _<_, _≤_};
-ghost use lib.ListN.{length};
-ghost use mathlib.Core.Bool.{Bool};
-ghost use mathlib.Core.Path.{_≡_};
-ghost use Rattle·store·specs.State.{state};
-ghost use Rattle·store·specs.Calls.{Adds, Removes, Joins};
-ghost use Rattle·store·specs.Run.{Goes};
+ghost use Rattle.std.specs.Prelude.{◌≡◌, ℕ, ◌+◌, ◌*◌, ◌<◌, ◌≤◌, Bool, length};
+ghost use Rattle.store.specs.State.{state};
+ghost use Rattle.store.specs.Calls.{Adds, Removes, Joins};
+ghost use Rattle.store.specs.Run.{Goes};
+
 use crate::fault::Fault;
-use crate::store::Store;
-use crate::store::check_code;
+use crate::store::{Store, check_code};
 use joining::rule::Rule;
 use memory::recall::RecallTable;
-use memory::shelf::Full;
-use memory::shelf::Shelf;
+use memory::shelf::{Full, Shelf};
 use memory::work::Place;
 use symbols::Symbol;
 
 impl<S: Symbol, B: Shelf<S>, R: RecallTable> Store<S, B, R> {
     // The list with the code, laid down; its number. Refused 2, 4, 3, 9. Time: the path that is copied.
     pub fn add(&mut self, list: u32, code: &[S], work: &mut [Place]) -> Result<u32, Fault>
-        ensures answer { λ r. ⌜ Goes (S·Symbol .before) (B·Shelf .capacity (now (self .entry) .shelf)) (B·Shelf .ready (now (self .entry) .shelf)) (state (B·Shelf .vertices (now (self .entry) .shelf)) (R·RecallTable .table (now (self .entry) .recall))) (B·Shelf .ready (now (self .exit) .shelf)) (state (B·Shelf .vertices (now (self .exit) .shelf)) (R·RecallTable .table (now (self .exit) .recall))) (Adds (S·Symbol .before) (B·Shelf .capacity (now (self .entry) .shelf)) (state (B·Shelf .vertices (now (self .entry) .shelf)) (R·RecallTable .table (now (self .entry) .recall))) list (now (code .entry)) (now (work .entry)) r (state (B·Shelf .vertices (now (self .exit) .shelf)) (R·RecallTable .table (now (self .exit) .recall)))) ⌝ }
-        ensures size { λ _. ⌜ B·Shelf .capacity (now (self .exit) .shelf) ≡ B·Shelf .capacity (now (self .entry) .shelf) ⌝ }
+        ensures answer { Goes S.Symbol.before (B.Shelf.capacity self.old.shelf) (B.Shelf.ready self.old.shelf) (state (B.Shelf.vertices self.old.shelf) (R.RecallTable.table self.old.recall)) (B.Shelf.ready self.new.shelf) (state (B.Shelf.vertices self.new.shelf) (R.RecallTable.table self.new.recall)) (Adds S.Symbol.before (B.Shelf.capacity self.old.shelf) (state (B.Shelf.vertices self.old.shelf) (R.RecallTable.table self.old.recall)) list code.now work.old result (state (B.Shelf.vertices self.new.shelf) (R.RecallTable.table self.new.recall))) }
+        ensures size { B.Shelf.capacity self.new.shelf ≡ B.Shelf.capacity self.old.shelf }
     {
         self.check_list(0, list)?;
         check_code(code)?;
@@ -37,8 +33,8 @@ impl<S: Symbol, B: Shelf<S>, R: RecallTable> Store<S, B, R> {
 
     // The list without the code, laid down; its number. Refused 2, 4, 3, 9. Time: the path that is copied.
     pub fn remove(&mut self, list: u32, code: &[S], work: &mut [Place]) -> Result<u32, Fault>
-        ensures answer { λ r. ⌜ Goes (S·Symbol .before) (B·Shelf .capacity (now (self .entry) .shelf)) (B·Shelf .ready (now (self .entry) .shelf)) (state (B·Shelf .vertices (now (self .entry) .shelf)) (R·RecallTable .table (now (self .entry) .recall))) (B·Shelf .ready (now (self .exit) .shelf)) (state (B·Shelf .vertices (now (self .exit) .shelf)) (R·RecallTable .table (now (self .exit) .recall))) (Removes (S·Symbol .before) (B·Shelf .capacity (now (self .entry) .shelf)) (state (B·Shelf .vertices (now (self .entry) .shelf)) (R·RecallTable .table (now (self .entry) .recall))) list (now (code .entry)) (now (work .entry)) r (state (B·Shelf .vertices (now (self .exit) .shelf)) (R·RecallTable .table (now (self .exit) .recall)))) ⌝ }
-        ensures size { λ _. ⌜ B·Shelf .capacity (now (self .exit) .shelf) ≡ B·Shelf .capacity (now (self .entry) .shelf) ⌝ }
+        ensures answer { Goes S.Symbol.before (B.Shelf.capacity self.old.shelf) (B.Shelf.ready self.old.shelf) (state (B.Shelf.vertices self.old.shelf) (R.RecallTable.table self.old.recall)) (B.Shelf.ready self.new.shelf) (state (B.Shelf.vertices self.new.shelf) (R.RecallTable.table self.new.recall)) (Removes S.Symbol.before (B.Shelf.capacity self.old.shelf) (state (B.Shelf.vertices self.old.shelf) (R.RecallTable.table self.old.recall)) list code.now work.old result (state (B.Shelf.vertices self.new.shelf) (R.RecallTable.table self.new.recall))) }
+        ensures size { B.Shelf.capacity self.new.shelf ≡ B.Shelf.capacity self.old.shelf }
     {
         self.check_list(0, list)?;
         check_code(code)?;
@@ -62,8 +58,8 @@ impl<S: Symbol, B: Shelf<S>, R: RecallTable> Store<S, B, R> {
         second: u32,
         work: &mut [Place],
     ) -> Result<u32, Fault>
-        ensures answer { λ r. ⌜ Goes (S·Symbol .before) (B·Shelf .capacity (now (self .entry) .shelf)) (B·Shelf .ready (now (self .entry) .shelf)) (state (B·Shelf .vertices (now (self .entry) .shelf)) (R·RecallTable .table (now (self .entry) .recall))) (B·Shelf .ready (now (self .exit) .shelf)) (state (B·Shelf .vertices (now (self .exit) .shelf)) (R·RecallTable .table (now (self .exit) .recall))) (Joins (S·Symbol .before) (B·Shelf .capacity (now (self .entry) .shelf)) (state (B·Shelf .vertices (now (self .entry) .shelf)) (R·RecallTable .table (now (self .entry) .recall))) rule first second (now (work .entry)) r (state (B·Shelf .vertices (now (self .exit) .shelf)) (R·RecallTable .table (now (self .exit) .recall)))) ⌝ }
-        ensures size { λ _. ⌜ B·Shelf .capacity (now (self .exit) .shelf) ≡ B·Shelf .capacity (now (self .entry) .shelf) ⌝ }
+        ensures answer { Goes S.Symbol.before (B.Shelf.capacity self.old.shelf) (B.Shelf.ready self.old.shelf) (state (B.Shelf.vertices self.old.shelf) (R.RecallTable.table self.old.recall)) (B.Shelf.ready self.new.shelf) (state (B.Shelf.vertices self.new.shelf) (R.RecallTable.table self.new.recall)) (Joins S.Symbol.before (B.Shelf.capacity self.old.shelf) (state (B.Shelf.vertices self.old.shelf) (R.RecallTable.table self.old.recall)) rule first second work.old result (state (B.Shelf.vertices self.new.shelf) (R.RecallTable.table self.new.recall))) }
+        ensures size { B.Shelf.capacity self.new.shelf ≡ B.Shelf.capacity self.old.shelf }
     {
         self.check_list(0, first)?;
         self.check_list(1, second)?;

@@ -1,4 +1,6 @@
 // The store of finds lists: one number a list, over any shelf, any recall table and any kind of symbol.
+#![tactic(auto)]
+
 pub mod asks;
 pub mod clears;
 pub mod fault;

@@ -1,8 +1,5 @@
 -- The law of an order of symbols.
-use mathlib.Core.Path.{_≡_}
-use mathlib.Core.Bool.{Bool, true, false, not, _&&_, _||_}
-use Prim.Native.Nat.{ℕ}
-use lib.Dec.{ltb, eqb}
+use Rattle.std.specs.Prelude.{◌≡◌, ℕ, Bool, true, false, not, ◌&&◌, ◌||◌, ◌==◌, ◌≢◌, nat_lt}
 
 pub record Order {S : Type 0} (before : S → S → Bool) : Type 0 where
   -- nothing comes before itself
@@ -13,12 +10,12 @@ pub record Order {S : Type 0} (before : S → S → Bool) : Type 0 where
 
 -- of two symbols that differ, exactly one comes before the other
 abbrev pub OneBefore : {S : Type 0} → (S → S → Bool) → Type 0
-OneBefore {S} before = (a b : S) → (a ≡ b → ⊥) → before b a ≡ not (before a b)
+OneBefore {S} before = (a b : S) → (a ≢ b) → before b a ≡ not (before a b)
 
 -- whether two symbols are the same, by the order
-abbrev pub same-symbol : {S : Type 0} → (S → S → Bool) → S → S → Bool
-same-symbol before a b = not (before a b) && not (before b a)
+abbrev pub same_symbol : {S : Type 0} → (S → S → Bool) → S → S → Bool
+same_symbol before a b = not (before a b) && not (before b a)
 
 -- the order of pairs of numbers: by the first, then by the second
 abbrev pub lower : ℕ → ℕ → ℕ → ℕ → Bool
-lower a b c d = ltb a c || (eqb a c && ltb b d)
+lower a b c d = nat_lt a c || (a == c && nat_lt b d)

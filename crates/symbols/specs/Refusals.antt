@@ -1,8 +1,7 @@
 -- How a refusal is told.
-use Prim.Native.Nat.{ℕ}
-use Rattle·std.specs.declared.option.Option.the-variants.{None}
-use Rattle·symbols·specs.declared.Refusal.{Refusal}
-use Rattle·symbols·specs.declared.SymbolFault.{SymbolFault}
+use Rattle.std.specs.Prelude.{ℕ, None}
+use Rattle.symbols.specs.declared.Refusal.{Refusal}
+use Rattle.symbols.specs.declared.SymbolFault.{SymbolFault}
 
 -- a number and what it carries
 abbrev pub carrying : ℕ → ℕ → Refusal
@@ -12,5 +11,5 @@ carrying n d = record { number = n; detail = d; symbol = None }
 abbrev pub plain : ℕ → Refusal
 plain n = carrying n 0
 
-abbrev pub symbol-refusal : SymbolFault → Refusal
-symbol-refusal f = carrying 1 (f .byte)
+abbrev pub symbol_refusal : SymbolFault → Refusal
+symbol_refusal f = carrying 1 f.byte

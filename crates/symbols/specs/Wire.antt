@@ -1,18 +1,13 @@
 -- The law of the bytes of symbols that travel.
-use mathlib.Core.Path.{_≡_}
-use mathlib.Core.List.{List}
-use Prim.Native.Nat.{ℕ, _≤_, _<_}
-use lib.ListN.{length, getD}
-use Rattle·std.specs.declared.result.Result.{Result}
-use Rattle·std.specs.declared.result.Result.the-variants.{Ok, Err}
-use Rattle·symbols·specs.declared.SymbolFault.{SymbolFault}
+use Rattle.std.specs.Prelude.{◌≡◌, ℕ, ◌<◌, ◌≤◌, List, length, Ok, Result, slice_index}
+use Rattle.symbols.specs.declared.SymbolFault.{SymbolFault}
 
 -- each element is a byte
 abbrev pub Bytes : List ℕ → Type 0
-Bytes bs = (k : ℕ) → k < length bs → getD bs k 0 < 256
+Bytes bs = (k : ℕ) → k < length bs → slice_index bs k < 256
 
 pub record WireLaws {S : Type 0} (kind width : ℕ) (bytes : S → List ℕ) (reads : List ℕ → Result S SymbolFault) : Type 0 where
-  pub one-byte : kind < 256
+  pub one_byte : kind < 256
   pub some : 1 ≤ width
   pub few : width ≤ 8
   pub long : (s : S) → length (bytes s) ≡ width

@@ -2,17 +2,13 @@
 //
 // A code is a sequence of symbols. The store is written once, over any kind of symbol: it asks for an order and for a
 // number to scatter by, and no more. Only a dispatch asks for bytes.
-ghost use Prim.Native.Nat.{ℕ, _≤_};
-ghost use lib.ListN.{length, drop};
-ghost use mathlib.Core.Bool.{Bool, true, false};
-ghost use mathlib.Core.List.{List, _++_};
-ghost use mathlib.Core.Logic.{_↔_};
-ghost use mathlib.Core.Path.{_≡_};
-ghost use Rattle·std.specs.declared.result.Result.{Result};
-ghost use Rattle·symbols·specs.Order.{Order, OneBefore};
-ghost use Rattle·symbols·specs.Refusals.{symbol-refusal};
-ghost use Rattle·symbols·specs.Wire.{WireLaws};
-ghost use Rattle·symbols·specs.declared.SymbolFault.{SymbolFault};
+#![tactic(auto)]
+
+ghost use Rattle.std.specs.Prelude.{◌≡◌, ℕ, ◌≤◌, Bool, true, false, ◌↔◌, List, ◌++◌, length, drop, Result};
+ghost use Rattle.symbols.specs.Order.{Order, OneBefore};
+ghost use Rattle.symbols.specs.Refusals.{symbol_refusal};
+ghost use Rattle.symbols.specs.Wire.{WireLaws};
+ghost use Rattle.symbols.specs.declared.SymbolFault.{SymbolFault};
 
 // The byte that makes no symbol.
 #[derive(Clone, Copy, Debug, PartialEq, Eq)]
@@ -31,7 +27,7 @@ pub struct Refusal {
 impl SymbolFault {
     // Refusal 1, with the byte.
     pub fn refusal(self) -> Refusal
-        ensures { λ r. ⌜ r ≡ symbol-refusal self ⌝ }
+        ensures { result ≡ symbol_refusal self }
     {
         Refusal {
             number: 1,
@@ -48,13 +44,13 @@ pub trait Symbol: Copy {
     // the scatter number, the same each time for the same symbol
     ghost scatter: { Self → ℕ };
 
-    law ordered: { Order before };
-
     fn before(self, other: Self) -> bool
-        ensures { λ r. ⌜ r ≡ before self other ⌝ };
+        ensures { result ≡ before self other };
 
     fn scatter(self) -> u32
-        ensures { λ r. ⌜ r ≡ scatter self ⌝ };
+        ensures { result ≡ scatter self };
+
+    ghost ordered: { Order before };
 }
 
 // A symbol that travels: its kind has a number and a width, and each symbol has its bytes.
@@ -69,36 +65,36 @@ pub trait WireSymbol: Symbol {
     // what bytes read as
     ghost reads: { List ℕ → Result Self SymbolFault };
 
-    law wired: { WireLaws kind width bytes reads };
-
     fn kind() -> u8
-        ensures { λ r. ⌜ r ≡ kind ⌝ };
+        ensures { result ≡ kind };
 
     fn width() -> usize
-        ensures { λ r. ⌜ r ≡ width ⌝ };
+        ensures { result ≡ width };
 
     // Writes the symbol's bytes to the start of `out`.
     fn write(self, out: &mut [u8])
-        requires { ⌜ width ≤ length (now out) ⌝ }
-        ensures { λ _. ⌜ now (out .exit) ≡ bytes self ++ drop width (now (out .entry)) ⌝ };
+        requires { width ≤ length out.old }
+        ensures { out.new ≡ bytes self ++ drop width out.old };
 
     // The symbol that exactly these bytes are.
     fn read(from: &[u8]) -> Result<Self, SymbolFault>
-        requires { ⌜ length (now from) ≡ width ⌝ }
-        ensures { λ r. ⌜ r ≡ reads (now (from .entry)) ⌝ };
+        requires { length from.now ≡ width }
+        ensures { result ≡ reads from.now };
+
+    ghost wired: { WireLaws kind width bytes reads };
 }
 
 // Whether two symbols are one and the same: neither comes before the other.
 pub fn same<S: Symbol>(a: S, b: S) -> bool
-    ensures { λ r. ⌜ (r ≡ true) ↔ (a ≡ b) ⌝ }
+    ensures { (result ≡ true) ↔ (a ≡ b) }
 {
     !a.before(b) && !b.before(a)
 }
 
 // Of two symbols that differ, exactly one comes before the other.
 pub fn one_before<S: Symbol>(a: S, b: S) -> bool
-    ensures value { λ r. ⌜ r ≡ S·Symbol .before a b ⌝ }
-    ensures law { λ _. ⌜ OneBefore (S·Symbol .before) ⌝ }
+    ensures value { result ≡ S.Symbol.before a b }
+    ensures law { OneBefore S.Symbol.before }
 {
     a.before(b)
 }

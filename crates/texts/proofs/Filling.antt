@@ -1,59 +1,53 @@
 -- An output filled symbol by symbol, and a code read twice: once to see that it can be read, and once to keep it.
-use mathlib.Core.Path.{_≡_, refl, sym, ap, _∙_}
-use mathlib.Core.List.{List, [], _∷_, _++_}
-use Prim.Native.Nat.{ℕ, zero, suc, _≤_}
-use native.Mathlib.Omega.{arith}
-use lib.ListN.{length, take, drop, set}
-use Rattle·std.proofs.shelf.Lists.{take-all, take-at}
-use Rattle·std.specs.declared.result.Result.{Result}
-use Rattle·std.specs.declared.result.Result.the-variants.{Ok, Err}
-use Rattle·texts·specs.Texts.{filled, ReadTo, Begun}
-use Rattle·texts·specs.declared.TextFault.{TextFault}
+use Rattle.std.proofs.Common.{◌≡◌, ℕ, zero, suc, ◌≤◌, List, [], ◌∷◌, ◌++◌, length, take, drop, set, Ok, Err, Result, sym, refl, ap, ◌∙◌, arith}
+use Rattle.std.proofs.lemmas.List.{take_all, take_at}
+use Rattle.texts.specs.Texts.{filled, ReadTo, Begun}
+use Rattle.texts.specs.declared.TextFault.{TextFault}
 
 module _ {S : Type 0} where
-  none-of : (n : ℕ) → take {A = S} n [] ≡ []
-  none-of zero = refl
-  none-of (suc n) = refl
+  none_of : (n : ℕ) → take {A = S} n [] ≡ []
+  none_of zero = refl
+  none_of (suc n) = refl
 
-  pub filled-none : (out : List S) → filled [] out ≡ out
-  filled-none out = ap (λ s. s ++ out) (none-of (length out))
+  pub filled_none : (out : List S) → filled [] out ≡ out
+  filled_none out = ap (λ s. s ++ out) (none_of (length out))
 
   -- one symbol more, past the end too
-  pub filled-more : (code : List S) (x : S) (out : List S) → set (filled code out) (length code) x ≡ filled (code ++ x ∷ []) out
-  filled-more [] x [] = refl
-  filled-more [] x (y ∷ out) = ap (λ s. set (s ++ y ∷ out) 0 x) (none-of (length (y ∷ out))) ∙ ap (λ s. x ∷ (s ++ out)) (sym (none-of (length out)))
-  filled-more (d ∷ code) x [] = refl
-  filled-more (d ∷ code) x (y ∷ out) = ap (λ s. d ∷ s) (filled-more code x out)
+  pub filled_more : (code : List S) (x : S) (out : List S) → set (filled code out) (length code) x ≡ filled (code ++ x ∷ []) out
+  filled_more [] x [] = refl
+  filled_more [] x (y ∷ out) = ap (λ s. set (s ++ y ∷ out) 0 x) (none_of (length (y ∷ out))) ∙ ap (λ s. x ∷ (s ++ out)) (sym (none_of (length out)))
+  filled_more (d ∷ code) x [] = refl
+  filled_more (d ∷ code) x (y ∷ out) = ap (λ s. d ∷ s) (filled_more code x out)
 
   -- what is known of the spelling once a reading has ended
-  pub begun-ok : (s : Result (List S) TextFault) (code old new : List S) (r : Result ℕ TextFault) → s ≡ Ok code → r ≡ Ok (length code) → new ≡ filled code old → Begun s old r new
-  begun-ok (Ok code₁) code old new r e p q = let same : code ≡ code₁ = cc in (p ∙ ap (λ c. Ok (length c)) same, q ∙ ap (λ c. filled c old) same)
-  begun-ok (Err fault) code old new r e p q = absurd (let z : _≡_ {A = ℕ} 0 1 = cc in omega arith)
+  pub begun_ok : (s : Result (List S) TextFault) (code old new : List S) (r : Result ℕ TextFault) → s ≡ Ok code → r ≡ Ok (length code) → new ≡ filled code old → Begun s old r new
+  begun_ok (Ok code₁) code old new r e p q = let same : code ≡ code₁ = cc in (p ∙ ap (λ c. Ok (length c)) same, q ∙ ap (λ c. filled c old) same)
+  begun_ok (Err fault) code old new r e p q = absurd (let z : ◌≡◌ {A = ℕ} 0 1 = cc in omega arith)
 
-  pub begun-err : (s : Result (List S) TextFault) (fault : TextFault) (old new : List S) (r : Result ℕ TextFault) → s ≡ Err fault → r ≡ Err fault → Begun s old r new
-  begun-err (Ok code) fault old new r e p = absurd (let z : _≡_ {A = ℕ} 0 1 = cc in omega arith)
-  begun-err (Err fault₁) fault old new r e p = cc
+  pub begun_err : (s : Result (List S) TextFault) (fault : TextFault) (old new : List S) (r : Result ℕ TextFault) → s ≡ Err fault → r ≡ Err fault → Begun s old r new
+  begun_err (Ok code) fault old new r e p = absurd (let z : ◌≡◌ {A = ℕ} 0 1 = cc in omega arith)
+  begun_err (Err fault₁) fault old new r e p = cc
 
   -- a reading that refuses, and one after a reading that did not
-  pub read-none : (s : Result (List S) TextFault) (fault : TextFault) (a b old : List S) → Begun s a (Err fault) b → ReadTo s old (Err fault) old
-  read-none (Ok code) fault a b old h = absurd (let e = h .0 in let z : _≡_ {A = ℕ} 0 1 = cc in omega arith)
-  read-none (Err fault₁) fault a b old h = (h, refl)
+  pub read_none : (s : Result (List S) TextFault) (fault : TextFault) (a b old : List S) → Begun s a (Err fault) b → ReadTo s old (Err fault) old
+  read_none (Ok code) fault a b old h = absurd (let e = h.0 in let z : ◌≡◌ {A = ℕ} 0 1 = cc in omega arith)
+  read_none (Err fault₁) fault a b old h = (h, refl)
 
-  pub read-again : (s : Result (List S) TextFault) (n : ℕ) (a b old new : List S) (r : Result ℕ TextFault) → Begun s a (Ok n) b → Begun s old r new → ReadTo s old r new
-  read-again (Ok code) n a b old new r h k = k
-  read-again (Err fault) n a b old new r h k = absurd (let z : _≡_ {A = ℕ} 0 1 = cc in omega arith)
+  pub read_again : (s : Result (List S) TextFault) (n : ℕ) (a b old new : List S) (r : Result ℕ TextFault) → Begun s a (Ok n) b → Begun s old r new → ReadTo s old r new
+  read_again (Ok code) n a b old new r h k = k
+  read_again (Err fault) n a b old new r h k = absurd (let z : ◌≡◌ {A = ℕ} 0 1 = cc in omega arith)
 
   -- what a caller learns of a reading
-  pub read-ok : (s : Result (List S) TextFault) (old new : List S) (n : ℕ) → ReadTo s old (Ok n) new → (code : List S) × (s ≡ Ok code) × (n ≡ length code) × (new ≡ filled code old)
-  read-ok (Ok code) old new n h = let e = h .0 in (code, refl, cc, h .1)
-  read-ok (Err fault) old new n h = absurd (let e = h .0 in let z : _≡_ {A = ℕ} 0 1 = cc in omega arith)
+  pub read_ok : (s : Result (List S) TextFault) (old new : List S) (n : ℕ) → ReadTo s old (Ok n) new → (code : List S) × (s ≡ Ok code) × (n ≡ length code) × (new ≡ filled code old)
+  read_ok (Ok code) old new n h = let e = h.0 in (code, refl, cc, h.1)
+  read_ok (Err fault) old new n h = absurd (let e = h.0 in let z : ◌≡◌ {A = ℕ} 0 1 = cc in omega arith)
 
-  pub read-err : (s : Result (List S) TextFault) (fault : TextFault) (old new : List S) → ReadTo s old (Err fault) new → (s ≡ Err fault) × (new ≡ old)
-  read-err (Ok code) fault old new h = absurd (let e = h .0 in let z : _≡_ {A = ℕ} 0 1 = cc in omega arith)
-  read-err (Err fault₁) fault old new h = let e = h .0 in (cc, h .1)
+  pub read_err : (s : Result (List S) TextFault) (fault : TextFault) (old new : List S) → ReadTo s old (Err fault) new → (s ≡ Err fault) × (new ≡ old)
+  read_err (Ok code) fault old new h = absurd (let e = h.0 in let z : ◌≡◌ {A = ℕ} 0 1 = cc in omega arith)
+  read_err (Err fault₁) fault old new h = let e = h.0 in (cc, h.1)
 
   -- a code that fits stands whole at the start
-  pub filled-whole : (code out : List S) → length code ≤ length out → take (length code) (filled code out) ≡ code
-  filled-whole code out h =
-      let all = take-all (length out) code h in
-      ap (λ s. take (length code) (s ++ drop (length code) out)) all ∙ take-at code (drop (length code) out) (length code) refl
+  pub filled_whole : (code out : List S) → length code ≤ length out → take (length code) (filled code out) ≡ code
+  filled_whole code out h =
+      let all = take_all (length out) code h in
+      ap (λ s. take (length code) (s ++ drop (length code) out)) all ∙ take_at code (drop (length code) out) (length code) refl

@@ -1,7 +1,7 @@
 -- The number of each refusal of a text, and what it carries.
-use Prim.Native.Nat.{ℕ}
-use Rattle·texts·specs.declared.TextFault.{TextFault}
-use Rattle·texts·specs.declared.TextFault.the-variants.{Unreadable, Symbol}
+use Rattle.std.specs.Prelude.{ℕ}
+use Rattle.texts.specs.declared.TextFault.{TextFault}
+use Rattle.texts.specs.declared.TextFault.TheVariants.{Unreadable, Symbol}
 
 pub record Refusal : Type 0 where
   pub number : ℕ
@@ -9,4 +9,4 @@ pub record Refusal : Type 0 where
 
 abbrev pub refusal : TextFault → Refusal
 refusal Unreadable = record { number = 18; detail = 0 }
-refusal (Symbol fault) = record { number = 1; detail = fault .byte }
+refusal (Symbol fault) = record { number = 1; detail = fault.byte }

@@ -1,12 +1,7 @@
 -- A code read from its text and written as its text, over any kind of symbol.
-use mathlib.Core.Path.{_≡_}
-use mathlib.Core.List.{List, _++_}
-use Prim.Native.Nat.{ℕ, _<_, _≤_}
-use lib.ListN.{length, take, drop}
-use Rattle·std.specs.declared.result.Result.{Result}
-use Rattle·std.specs.declared.result.Result.the-variants.{Ok, Err}
-use Rattle·texts·specs.declared.ShortText.{ShortText}
-use Rattle·texts·specs.declared.TextFault.{TextFault}
+use Rattle.std.specs.Prelude.{◌≡◌, ℕ, ◌<◌, ◌≤◌, List, ◌++◌, length, take, drop, Ok, Err, Result}
+use Rattle.texts.specs.declared.ShortText.{ShortText}
+use Rattle.texts.specs.declared.TextFault.{TextFault}
 
 -- a text that spells a code is that code's own text
 abbrev pub OwnText : {S : Type 0} → (List ℕ → Result (List S) TextFault) → (List S → List ℕ) → Type 0

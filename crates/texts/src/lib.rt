@@ -2,21 +2,15 @@
 //
 // A kind says what a text spells, and which text a code has; reading and writing are inverse. Both take time in the length
 // of the text, and neither changes anything where it refuses.
-ghost use Prim.Native.Nat.{ℕ};
-ghost use lib.ListN.{set};
-ghost use mathlib.Core.List.{List};
-ghost use mathlib.Core.Path.{_≡_};
-ghost use Rattle·std.specs.Vec.{made};
-ghost use Rattle·std.specs.declared.result.Result.{Result};
-ghost use Rattle·std.specs.declared.result.Result.the-variants.{Ok};
-ghost use Rattle·texts·specs.Refusals.{refusal};
-ghost use Rattle·texts·specs.Texts.{OwnText, ReadTo, WrittenTo};
-ghost use Rattle·texts·specs.declared.TextFault.{TextFault};
-ghost use Rattle·texts·specs.declared.TextFault.the-variants.{Symbol as symbol-fault};
-use symbols::Symbol;
-use symbols::SymbolFault;
-use symbols::SymbolFaultDebug;
-use symbols::SymbolFaultPartialEq;
+#![tactic(auto)]
+
+ghost use Rattle.std.specs.Prelude.{◌≡◌, ℕ, List, Ok, Result, OnOk, slice_set};
+ghost use Rattle.texts.specs.Refusals.{refusal};
+ghost use Rattle.texts.specs.Texts.{OwnText, ReadTo, WrittenTo};
+ghost use Rattle.texts.specs.declared.TextFault.{TextFault};
+ghost use Rattle.texts.specs.declared.TextFault.TheVariants.{Symbol as symbol_fault};
+
+use symbols::{Symbol, SymbolFault};
 
 // Why a text spells no code: it has another form, or a part of it makes no symbol.
 #[derive(Clone, Copy, Debug, PartialEq, Eq)]
@@ -25,8 +19,8 @@ pub enum TextFault {
     Symbol(SymbolFault),
 }
 
-pub impl From<SymbolFault> for TextFault as TextFromSymbol {
-    ghost converts = { λ symbol r. r ≡ symbol-fault symbol };
+impl From<SymbolFault> for TextFault {
+    ghost from_gives = { λ symbol r. r ≡ symbol_fault symbol };
 
     fn from(symbol: SymbolFault) -> TextFault {
         TextFault::Symbol(symbol)
@@ -36,7 +30,7 @@ pub impl From<SymbolFault> for TextFault as TextFromSymbol {
 impl TextFault {
     // The number of the refusal.
     pub fn number(self) -> u8
-        ensures { λ r. ⌜ r ≡ refusal self .number ⌝ }
+        ensures { result ≡ (refusal self).number }
     {
         match self {
             TextFault::Unreadable => 18,
@@ -46,7 +40,7 @@ impl TextFault {
 
     // What the refusal carries.
     pub fn detail(self) -> u8
-        ensures { λ r. ⌜ r ≡ refusal self .detail ⌝ }
+        ensures { result ≡ (refusal self).detail }
     {
         match self {
             TextFault::Unreadable => 0,
@@ -66,22 +60,22 @@ pub trait TextSymbol: Symbol {
     // the text of a code
     ghost text: { List Self → List ℕ };
 
-    law own: { OwnText spells text };
-
     // Reads the code of a text to the start of `out`, as much of it as there is room for, and answers how many symbols the
     // code has.
     fn read_code(from: &[u8], out: &mut [Self]) -> Result<usize, TextFault>
-        ensures { λ r. ⌜ ReadTo (spells (now (from .entry))) (now (out .entry)) r (now (out .exit)) ⌝ };
+        ensures { ReadTo (spells from.now) out.old result out.new };
 
     // Writes the text of `code` to the start of `out`, and answers its length. What is written spells the code again.
     fn write_code(code: &[Self], out: &mut [u8]) -> Result<usize, ShortText>
-        ensures answer { λ r. ⌜ WrittenTo (text (now (code .entry))) (now (out .entry)) r (now (out .exit)) ⌝ }
-        ensures back { λ r. ⌜ made r (λ _. spells (text (now (code .entry))) ≡ Ok (now (code .entry))) ⌝ };
+        ensures answer { WrittenTo (text code.now) out.old result out.new }
+        ensures back { OnOk result (spells (text code.now) ≡ Ok code.now) };
+
+    ghost own: { OwnText spells text };
 }
 
 // Writes a symbol to a place of an output, if the output has that place.
 pub fn put<S: Copy>(out: &mut [S], place: usize, symbol: S)
-    ensures { λ _. ⌜ now (out .exit) ≡ set (now (out .entry)) place symbol ⌝ }
+    ensures { out.new ≡ slice_set out.old place symbol }
 {
     if place < out.len() {
         out[place] = symbol;

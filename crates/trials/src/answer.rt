@@ -1,6 +1,5 @@
 // What a call answers, as text.
-use std::alloc::AllocError;
-use std::alloc::Global;
+use std::alloc::{AllocError, Global};
 use std::fmt;
 use store::fault::Fault;
 use texts::TextSymbol;
@@ -12,7 +11,7 @@ const LONGEST_TEXT: usize = 64;
 #[derive(Clone, Copy)]
 pub struct Code<'a>(pub &'a str);
 
-pub impl<'a> fmt::Display for Code<'a> as CodeDisplay {
+impl<'a> fmt::Display for Code<'a> {
     fn fmt<W: fmt::Write>(&self, f: &mut fmt::Formatter<W>) -> fmt::Result {
         let text = self.0;
         match text.len() {
@@ -29,29 +28,29 @@ fn refused(heap: Global, fault: Fault) -> Result<String, AllocError> {
     let number = refusal.number;
     let place = refusal.detail;
     if let Fault::NoSuchList { .. } = fault {
-        return format!(heap, "refused {number}, place {place}");
+        return format!(in heap; "refused {number}, place {place}");
     }
-    format!(heap, "refused {number}")
+    format!(in heap; "refused {number}")
 }
 
 pub fn number(heap: Global, answer: Result<u32, Fault>) -> Result<String, AllocError> {
     match answer {
-        Ok(n) => format!(heap, "{n}"),
+        Ok(n) => format!(in heap; "{n}"),
         Err(fault) => refused(heap, fault),
     }
 }
 
 pub fn count(heap: Global, answer: Result<u64, Fault>) -> Result<String, AllocError> {
     match answer {
-        Ok(n) => format!(heap, "{n}"),
+        Ok(n) => format!(in heap; "{n}"),
         Err(fault) => refused(heap, fault),
     }
 }
 
 pub fn yes_or_no(heap: Global, answer: Result<bool, Fault>) -> Result<String, AllocError> {
     match answer {
-        Ok(true) => format!(heap, "yes"),
-        Ok(false) => format!(heap, "no"),
+        Ok(true) => format!(in heap; "yes"),
+        Ok(false) => format!(in heap; "no"),
         Err(fault) => refused(heap, fault),
     }
 }
@@ -60,12 +59,12 @@ pub fn yes_or_no(heap: Global, answer: Result<bool, Fault>) -> Result<String, Al
 fn text_of<S: TextSymbol>(heap: Global, symbols: &[S]) -> Result<String, AllocError> {
     let mut bytes = vec![in heap; b' '; LONGEST_TEXT]?;
     let Ok(length) = S::write_code(symbols, bytes.as_mut_slice()) else {
-        return format!(heap, "a longer text");
+        return format!(in heap; "a longer text");
     };
     bytes.truncate(length);
     match String::from_utf8(bytes) {
-        Ok(text) => format!(heap, "{}", Code(text.as_str())),
-        Err(_) => format!(heap, "no text"),
+        Ok(text) => format!(in heap; "{}", Code(text.as_str())),
+        Err(_) => format!(in heap; "no text"),
     }
 }
 
@@ -91,10 +90,10 @@ pub fn vertex<S: TextSymbol>(
     answer: Option<(S, u32, u32)>,
 ) -> Result<String, AllocError> {
     let Some((label, zero, one)) = answer else {
-        return format!(heap, "nothing");
+        return format!(in heap; "nothing");
     };
     let mut symbols = Vec::new(heap);
     symbols.push(label)?;
     let text = text_of(heap, symbols.as_slice())?;
-    format!(heap, "{text}, {zero}, {one}")
+    format!(in heap; "{text}, {zero}, {one}")
 }

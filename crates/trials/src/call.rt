@@ -1,6 +1,5 @@
 // The calls of a store, as a table lists them. A code stands there as its text.
 use crate::answer::Code;
-use crate::answer::CodeDisplay;
 use std::fmt;
 
 #[derive(Clone, Copy)]
@@ -18,7 +17,7 @@ pub enum Call {
     Used,
 }
 
-pub impl fmt::Display for Call as CallDisplay {
+impl fmt::Display for Call {
     fn fmt<W: fmt::Write>(&self, f: &mut fmt::Formatter<W>) -> fmt::Result {
         match *self {
             Call::Add(code, list) => write!(f, "add {} to {list}", Code(code)),

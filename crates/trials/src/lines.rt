@@ -1,26 +1,14 @@
 // A session in steps: lines as the program reads them, and what each is answered at the desk.
-use crate::running::OLD_PLACE;
-use crate::running::OLD_SLOT;
-use bucket_shelf::BucketShelf;
-use bucket_shelf::BucketShelfShelf;
-use bucket_shelf::Entry;
-use bucket_shelf::EntryClone;
-use desk::serve::CODE_ROOM;
-use desk::serve::LONGEST_RECEIVED;
-use desk::serve::serve;
+use crate::running::{OLD_PLACE, OLD_SLOT};
+use bucket_shelf::{BucketShelf, Entry};
+use desk::serve::{CODE_ROOM, LONGEST_RECEIVED, serve};
 use ledger::Vertex;
-use ledger::VertexClone;
 use memory::recall::RecallTable;
 use memory::shelf::Shelf;
 use memory::work::Place;
 use recall_tables::SlotTable;
-use recall_tables::SlotTableRecallTable;
 use std::io;
-use steps::Step;
-use steps::StepSymbol;
-use steps::StepText;
-use steps::StepWire;
-use steps::Unit;
+use steps::{Step, Unit};
 use store::store::Store;
 
 const CAPACITY: usize = 12;
@@ -114,7 +102,7 @@ const OLD: Step = Step {
 
 // Serves a line, and prints it with what it is answered.
 fn serve_one<B: Shelf<Step>, R: RecallTable>(
-    rt: &LibcRuntime,
+    rt: &HostRuntime,
     store: &mut Store<Step, B, R>,
     line: &str,
     code: &mut [Step],
@@ -125,15 +113,15 @@ fn serve_one<B: Shelf<Step>, R: RecallTable>(
     match serve(store, line.as_bytes(), code, bytes, work, answer) {
         Ok(n) => {
             let text = String::from_utf8_lossy(rt.alloc(), &answer[0..n])?;
-            print!(rt, "{line}: {text}")
+            print!(rt; "{line}: {text}")
         }
-        Err(_) => println!(rt, "{line}: no room"),
+        Err(_) => println!(rt; "{line}: no room"),
     }
 }
 
 // Serves lines, one after another, on a store over this shelf and this recall table.
 fn serve_all<B: Shelf<Step> + Drop, R: RecallTable + Drop>(
-    rt: &LibcRuntime,
+    rt: &HostRuntime,
     shelf: B,
     recall: R,
     lines: &[&str],
@@ -158,11 +146,8 @@ fn serve_all<B: Shelf<Step> + Drop, R: RecallTable + Drop>(
     Ok(())
 }
 
-pub fn run_all(rt: &LibcRuntime) -> io::Result<()> {
-    println!(
-        rt,
-        "== lines in steps, capacity 12; bucket shelf, slot table"
-    )?;
+pub fn run_all(rt: &HostRuntime) -> io::Result<()> {
+    println!(rt; "== lines in steps, capacity 12; bucket shelf, slot table")?;
     let vertex = Vertex {
         label: OLD,
         zero: 9,

@@ -1,15 +1,9 @@
 // The recall tables: what each recalls of what it is told.
 use crate::running::OLD_SLOT;
-use memory::recall::Question;
-use memory::recall::RecallTable;
-use recall_tables::Blank;
-use recall_tables::BlankRecallTable;
-use recall_tables::SlotTable;
-use recall_tables::SlotTableRecallTable;
-use std::alloc::AllocError;
-use std::alloc::Global;
-use std::fmt;
-use std::io;
+use memory::recall::{Question, RecallTable};
+use recall_tables::{Blank, SlotTable};
+use std::alloc::{AllocError, Global};
+use std::{fmt, io};
 
 // A rule and two list numbers; of what is told, the answer too.
 #[derive(Clone, Copy)]
@@ -19,7 +13,7 @@ enum RecallCall {
     Forget,
 }
 
-impl fmt::Display for RecallCall as RecallCallDisplay {
+impl fmt::Display for RecallCall {
     fn fmt<W: fmt::Write>(&self, f: &mut fmt::Formatter<W>) -> fmt::Result {
         match *self {
             RecallCall::Recall(rule, first, second) => write!(
@@ -67,8 +61,8 @@ fn recall<R: RecallTable>(
     question: Question,
 ) -> Result<String, AllocError> {
     match table.recall(question) {
-        Some(n) => format!(heap, "{n}"),
-        None => format!(heap, "nothing"),
+        Some(n) => format!(in heap; "{n}"),
+        None => format!(in heap; "nothing"),
     }
 }
 
@@ -97,37 +91,37 @@ fn make<R: RecallTable>(
                 },
                 answer,
             );
-            format!(heap, "told")
+            format!(in heap; "told")
         }
         RecallCall::Forget => {
             table.forget();
-            format!(heap, "forgotten")
+            format!(in heap; "forgotten")
         }
     }
 }
 
-fn run<R: RecallTable>(rt: &LibcRuntime, table: &mut R, calls: &[RecallCall]) -> io::Result<()> {
+fn run<R: RecallTable>(rt: &HostRuntime, table: &mut R, calls: &[RecallCall]) -> io::Result<()> {
     for call in calls {
         let answer = make(rt.alloc(), table, *call)?;
-        println!(rt, "{call}: {answer}")?;
+        println!(rt; "{call}: {answer}")?;
     }
     Ok(())
 }
 
-fn on_blank_table(rt: &LibcRuntime, calls: &[RecallCall]) -> io::Result<()> {
-    println!(rt, "== blank table")?;
+fn on_blank_table(rt: &HostRuntime, calls: &[RecallCall]) -> io::Result<()> {
+    println!(rt; "== blank table")?;
     let mut table = Blank;
     run(rt, &mut table, calls)
 }
 
-fn on_slot_table(rt: &LibcRuntime, slots: usize, calls: &[RecallCall]) -> io::Result<()> {
-    println!(rt, "== slot table of {slots}")?;
+fn on_slot_table(rt: &HostRuntime, slots: usize, calls: &[RecallCall]) -> io::Result<()> {
+    println!(rt; "== slot table of {slots}")?;
     let mut old_slots = vec![in rt.alloc(); OLD_SLOT; slots]?;
     let mut table = SlotTable::new(old_slots.as_mut_slice());
     run(rt, &mut table, calls)
 }
 
-pub fn run_all(rt: &LibcRuntime) -> io::Result<()> {
+pub fn run_all(rt: &HostRuntime) -> io::Result<()> {
     on_blank_table(rt, &TOLD)?;
     on_slot_table(rt, 0, &TOLD)?;
     on_slot_table(rt, 1, &TOLD)?;

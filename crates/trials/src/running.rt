@@ -2,26 +2,14 @@
 // the same calls must answer the same.
 use crate::answer;
 use crate::call::Call;
-use crate::call::CallDisplay;
-use bucket_shelf::BucketShelf;
-use bucket_shelf::BucketShelfShelf;
-use bucket_shelf::Entry;
-use bucket_shelf::EntryClone;
+use bucket_shelf::{BucketShelf, Entry};
 use ledger::Vertex;
-use ledger::VertexClone;
-use memory::recall::Question;
-use memory::recall::RecallTable;
+use memory::recall::{Question, RecallTable};
 use memory::shelf::Shelf;
 use memory::work::Place;
-use recall_tables::Blank;
-use recall_tables::BlankRecallTable;
-use recall_tables::Slot;
-use recall_tables::SlotTable;
-use recall_tables::SlotTableRecallTable;
+use recall_tables::{Blank, Slot, SlotTable};
 use row_shelf::RowShelf;
-use row_shelf::RowShelfShelf;
-use std::alloc::AllocError;
-use std::alloc::Global;
+use std::alloc::{AllocError, Global};
 use std::io;
 use store::store::Store;
 use texts::TextSymbol;
@@ -165,7 +153,7 @@ fn make<S: TextSymbol + Clone, B: Shelf<S>, R: RecallTable>(
 
 // Makes the calls of a table, one after another, on a store over this shelf and this recall table.
 fn run<S: TextSymbol + Clone, B: Shelf<S> + Drop, R: RecallTable + Drop>(
-    rt: &LibcRuntime,
+    rt: &HostRuntime,
     shelf: B,
     recall: R,
     old: S,
@@ -177,13 +165,13 @@ fn run<S: TextSymbol + Clone, B: Shelf<S> + Drop, R: RecallTable + Drop>(
     let mut store = Store::fit_out(shelf, recall);
     for call in table {
         let answer = make(heap, &mut store, old, work.as_mut_slice(), *call)?;
-        println!(rt, "{call}: {answer}")?;
+        println!(rt; "{call}: {answer}")?;
     }
     Ok(())
 }
 
 fn on_row_shelf<S: TextSymbol + Clone>(
-    rt: &LibcRuntime,
+    rt: &HostRuntime,
     old: S,
     memory: Memory,
     table: &[Call],
@@ -194,7 +182,7 @@ fn on_row_shelf<S: TextSymbol + Clone>(
 }
 
 fn on_bucket_shelf<S: TextSymbol + Clone>(
-    rt: &LibcRuntime,
+    rt: &HostRuntime,
     old: S,
     memory: Memory,
     table: &[Call],
@@ -219,14 +207,14 @@ fn on_bucket_shelf<S: TextSymbol + Clone>(
 
 // Runs a table on a fresh store over each shelf.
 pub fn run_on_both<S: TextSymbol + Clone>(
-    rt: &LibcRuntime,
+    rt: &HostRuntime,
     title: &str,
     old: S,
     memory: Memory,
     table: &[Call],
 ) -> io::Result<()> {
-    println!(rt, "== {title}; row shelf, blank table")?;
+    println!(rt; "== {title}; row shelf, blank table")?;
     on_row_shelf(rt, old, memory, table)?;
-    println!(rt, "== {title}; bucket shelf, slot table")?;
+    println!(rt; "== {title}; bucket shelf, slot table")?;
     on_bucket_shelf(rt, old, memory, table)
 }

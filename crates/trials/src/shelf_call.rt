@@ -19,7 +19,7 @@ pub enum ShelfCall {
     Gather(&'static str),
 }
 
-pub impl fmt::Display for Drawn as DrawnDisplay {
+impl fmt::Display for Drawn {
     fn fmt<W: fmt::Write>(&self, f: &mut fmt::Formatter<W>) -> fmt::Result {
         let label = char::from(self.0.to_byte());
         let zero = self.1;
@@ -32,7 +32,7 @@ pub impl fmt::Display for Drawn as DrawnDisplay {
 #[derive(Clone, Copy)]
 struct Marks<'a>(&'a str);
 
-impl<'a> fmt::Display for Marks<'a> as MarksDisplay {
+impl<'a> fmt::Display for Marks<'a> {
     fn fmt<W: fmt::Write>(&self, f: &mut fmt::Formatter<W>) -> fmt::Result {
         let marks = self.0;
         match marks.len() {
@@ -42,7 +42,7 @@ impl<'a> fmt::Display for Marks<'a> as MarksDisplay {
     }
 }
 
-pub impl fmt::Display for ShelfCall as ShelfCallDisplay {
+impl fmt::Display for ShelfCall {
     fn fmt<W: fmt::Write>(&self, f: &mut fmt::Formatter<W>) -> fmt::Result {
         match *self {
             ShelfCall::Capacity => write!(f, "capacity"),

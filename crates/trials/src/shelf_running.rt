@@ -1,23 +1,12 @@
 // Running a table on a shelf, over memory that holds old vertices.
-use crate::shelf_call::Drawn;
-use crate::shelf_call::DrawnDisplay;
-use crate::shelf_call::ShelfCall;
-use crate::shelf_call::ShelfCallDisplay;
-use bucket_shelf::BucketShelf;
-use bucket_shelf::BucketShelfShelf;
-use bucket_shelf::Entry;
-use bucket_shelf::EntryClone;
+use crate::shelf_call::{Drawn, ShelfCall};
+use bucket_shelf::{BucketShelf, Entry};
 use ledger::Vertex;
-use ledger::VertexClone;
 use letters::Letter;
-use letters::LetterSymbol;
-use memory::shelf::Full;
-use memory::shelf::Shelf;
+use memory::shelf::{Full, Shelf};
 use memory::work::Place;
 use row_shelf::RowShelf;
-use row_shelf::RowShelfShelf;
-use std::alloc::AllocError;
-use std::alloc::Global;
+use std::alloc::{AllocError, Global};
 use std::io;
 
 // What an earlier use left in a record: a vertex that the tables ask for.
@@ -29,15 +18,15 @@ const OLD_VERTEX: Vertex<Letter> = Vertex {
 
 fn number_or_nothing(heap: Global, answer: Option<u32>) -> Result<String, AllocError> {
     match answer {
-        Some(n) => format!(heap, "{n}"),
-        None => format!(heap, "nothing"),
+        Some(n) => format!(in heap; "{n}"),
+        None => format!(in heap; "nothing"),
     }
 }
 
 fn number_or_full(heap: Global, answer: Result<u32, Full>) -> Result<String, AllocError> {
     match answer {
-        Ok(n) => format!(heap, "{n}"),
-        Err(Full) => format!(heap, "full"),
+        Ok(n) => format!(in heap; "{n}"),
+        Err(Full) => format!(in heap; "full"),
     }
 }
 
@@ -46,8 +35,8 @@ fn vertex_or_nothing(
     answer: Option<(Letter, u32, u32)>,
 ) -> Result<String, AllocError> {
     match answer {
-        Some((label, zero, one)) => format!(heap, "{}", Drawn(label, zero, one)),
-        None => format!(heap, "nothing"),
+        Some((label, zero, one)) => format!(in heap; "{}", Drawn(label, zero, one)),
+        None => format!(in heap; "nothing"),
     }
 }
 
@@ -73,15 +62,15 @@ fn gather<B: Shelf<Letter>>(
 ) -> Result<String, AllocError> {
     let mut places = places_of(heap, marks)?;
     if shelf.gather(places.as_mut_slice()) {
-        return format!(heap, "yes");
+        return format!(in heap; "yes");
     }
-    format!(heap, "no")
+    format!(in heap; "no")
 }
 
 fn cut<B: Shelf<Letter>>(heap: Global, shelf: &mut B, n: u32) -> Result<String, AllocError> {
     shelf.cut(n);
     let used = shelf.used();
-    format!(heap, "{used} used")
+    format!(in heap; "{used} used")
 }
 
 // Calls one function, and tells what it answers.
@@ -110,28 +99,28 @@ fn make<B: Shelf<Letter>>(
     }
 }
 
-fn run<B: Shelf<Letter>>(rt: &LibcRuntime, shelf: &mut B, table: &[ShelfCall]) -> io::Result<()> {
+fn run<B: Shelf<Letter>>(rt: &HostRuntime, shelf: &mut B, table: &[ShelfCall]) -> io::Result<()> {
     for call in table {
         let answer = make(rt.alloc(), shelf, *call)?;
-        println!(rt, "{call}: {answer}")?;
+        println!(rt; "{call}: {answer}")?;
     }
     Ok(())
 }
 
-pub fn on_row_shelf(rt: &LibcRuntime, records: usize, table: &[ShelfCall]) -> io::Result<()> {
-    println!(rt, "== row shelf of {records}")?;
+pub fn on_row_shelf(rt: &HostRuntime, records: usize, table: &[ShelfCall]) -> io::Result<()> {
+    println!(rt; "== row shelf of {records}")?;
     let mut old_records = vec![in rt.alloc(); OLD_VERTEX; records]?;
     let mut shelf = RowShelf::new(old_records.as_mut_slice());
     run(rt, &mut shelf, table)
 }
 
 pub fn on_bucket_shelf(
-    rt: &LibcRuntime,
+    rt: &HostRuntime,
     records: usize,
     heads: usize,
     table: &[ShelfCall],
 ) -> io::Result<()> {
-    println!(rt, "== bucket shelf of {records}, {heads} heads")?;
+    println!(rt; "== bucket shelf of {records}, {heads} heads")?;
     let entry = Entry {
         vertex: OLD_VERTEX,
         next: 2,

@@ -1,8 +1,6 @@
 // The tables of calls on a shelf.
-use crate::shelf_call::Drawn;
-use crate::shelf_call::ShelfCall;
-use crate::shelf_running::on_bucket_shelf;
-use crate::shelf_running::on_row_shelf;
+use crate::shelf_call::{Drawn, ShelfCall};
+use crate::shelf_running::{on_bucket_shelf, on_row_shelf};
 use letters::Letter;
 use std::io;
 
@@ -81,7 +79,7 @@ const WITHOUT_ROOM: [ShelfCall; 9] = [
     ShelfCall::Used,
 ];
 
-pub fn run_all(rt: &LibcRuntime) -> io::Result<()> {
+pub fn run_all(rt: &HostRuntime) -> io::Result<()> {
     on_row_shelf(rt, 3, &FILLED)?;
     on_bucket_shelf(rt, 3, 2, &FILLED)?;
     on_row_shelf(rt, 3, &GATHERED)?;

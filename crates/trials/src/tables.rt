@@ -1,13 +1,9 @@
 // The tables of calls on a store.
 use crate::call::Call;
-use crate::running::Memory;
-use crate::running::run_on_both;
+use crate::running::{Memory, run_on_both};
 use letters::Letter;
-use letters::LetterText;
 use std::io;
-use steps::Step;
-use steps::StepText;
-use steps::Unit;
+use steps::{Step, Unit};
 
 // A code of 64 letters, and one letter more.
 const LONGEST: &str = "AAAAAAAAAAAAAAAAAAAAAAAAAAAAAAAAAAAAAAAAAAAAAAAAAAAAAAAAAAAAAAAA";
@@ -216,7 +212,7 @@ const TRENCHES: [Call; 11] = [
 
 // A table of calls on lists of letters.
 fn on_letters(
-    rt: &LibcRuntime,
+    rt: &HostRuntime,
     title: &str,
     capacity: usize,
     places: usize,
@@ -226,7 +222,7 @@ fn on_letters(
 }
 
 fn on_steps(
-    rt: &LibcRuntime,
+    rt: &HostRuntime,
     title: &str,
     capacity: usize,
     places: usize,
@@ -240,7 +236,7 @@ fn on_steps(
 }
 
 // Work space is just as much as is needed, 2 × capacity + 256 places, but for one table.
-pub fn run_all(rt: &LibcRuntime) -> io::Result<()> {
+pub fn run_all(rt: &HostRuntime) -> io::Result<()> {
     on_letters(rt, "worked calls, capacity 10", 10, 276, &WORKED)?;
     on_letters(rt, "full, capacity 2", 2, 260, &FULL)?;
     on_letters(rt, "half laid, capacity 3", 3, 262, &HALF_LAID)?;

@@ -1,54 +1,46 @@
 -- What the bytes of records say, and which fault comes first.
-use mathlib.Core.Bool.{Bool, true, false, cond, _||_}
-use mathlib.Core.List.{List, [], _∷_, _++_}
-use Prim.Native.Nat.{ℕ, zero, suc, _+_, _*_}
-use lib.Dec.{leb, eqb}
-use lib.ListN.{length, take, drop}
-use Rattle·std.specs.declared.option.Option.{Option}
-use Rattle·std.specs.declared.option.Option.the-variants.{Some, None}
-use Rattle·std.specs.declared.result.Result.{Result}
-use Rattle·std.specs.declared.result.Result.the-variants.{Ok, Err}
-use Rattle·symbols.specs.declared.SymbolFault.{SymbolFault}
-use Rattle·symbols.specs.Wire.{Travel}
-use Rattle·ledger.specs.declared.Vertex.{Vertex}
-use Rattle·ledger.specs.Diagrams.{look}
-use Rattle·ledger.specs.Dispatch.{be4}
-use Rattle·wire·specs.Heads.{word}
-use Rattle·wire·specs.declared.faults.RecordFault.{RecordFault}
-use Rattle·wire·specs.declared.faults.RecordFault.the-variants.{Label, LinkNotBelow, OneLinkZero, LabelNotAfter}
-use Rattle·wire·specs.declared.faults.FaultyRecord.{FaultyRecord}
+use Rattle.std.specs.Prelude.{ℕ, zero, suc, ◌+◌, ◌*◌, Bool, true, false, cond, ◌||◌, List, [], ◌∷◌, ◌++◌, length, take, drop, Some, None, Ok, Err, Option, Result, ◌==◌, nat_le}
+use Rattle.symbols.specs.declared.SymbolFault.{SymbolFault}
+use Rattle.symbols.specs.Wire.{Travel}
+use Rattle.ledger.specs.declared.Vertex.{Vertex}
+use Rattle.ledger.specs.Diagrams.{look}
+use Rattle.ledger.specs.Dispatch.{be4}
+use Rattle.wire.specs.Heads.{word}
+use Rattle.wire.specs.declared.faults.RecordFault.{RecordFault}
+use Rattle.wire.specs.declared.faults.RecordFault.TheVariants.{Label, LinkNotBelow, OneLinkZero, LabelNotAfter}
+use Rattle.wire.specs.declared.faults.FaultyRecord.{FaultyRecord}
 
 abbrev pub travel : {S : Type 0} → ℕ → ℕ → (S → List ℕ) → (List ℕ → Result S SymbolFault) → Travel S
 travel kind width bytes reads = record { kind = kind; width = width; bytes = bytes; reads = reads }
 
 module _ {S : Type 0} where
   -- the bytes of a record: its label, then its links
-  abbrev pub record-bytes : (S → List ℕ) → Vertex S → List ℕ
-  record-bytes bytes v = bytes (v .label) ++ (be4 (v .zero) ++ be4 (v .one))
+  abbrev pub record_bytes : (S → List ℕ) → Vertex S → List ℕ
+  record_bytes bytes v = bytes v.label ++ (be4 v.zero ++ be4 v.one)
 
   -- a record whose label is read, by its two links: both are below its own number, and the one link is not 0
   abbrev pub linked : ℕ → ℕ → ℕ → Result S SymbolFault → Result (Vertex S) RecordFault
   linked own low high (Err e) = Err (Label e)
   linked own low high (Ok s) =
-      cond (leb own low || leb own high) (Err LinkNotBelow) (cond (eqb high 0) (Err OneLinkZero) (Ok (record { label = s; zero = low; one = high })))
+      cond (nat_le own low || nat_le own high) (Err LinkNotBelow) (cond (high == 0) (Err OneLinkZero) (Ok (record { label = s; zero = low; one = high })))
 
   -- the record of the vertex `own`
-  abbrev pub record-of : Travel S → ℕ → List ℕ → Result (Vertex S) RecordFault
-  record-of t own bs = linked own (word bs (t .width)) (word bs (t .width + 4)) (t .reads (take (t .width) bs))
+  abbrev pub record_of : Travel S → ℕ → List ℕ → Result (Vertex S) RecordFault
+  record_of t own bs = linked own (word bs t.width) (word bs (t.width + 4)) (t.reads (take t.width bs))
 
   -- a label comes before another, if there is another
-  abbrev pub comes-before : (S → S → Bool) → S → Option (Vertex S) → Bool
-  comes-before before a None = true
-  comes-before before a (Some w) = before a (w .label)
+  abbrev pub comes_before : (S → S → Bool) → S → Option (Vertex S) → Bool
+  comes_before before a None = true
+  comes_before before a (Some w) = before a w.label
 
   -- and its label comes before that of its zero link, where that is one of the vertices vs
   abbrev pub checked : (S → S → Bool) → List (Vertex S) → Result (Vertex S) RecordFault → Result (Vertex S) RecordFault
   checked before vs (Err e) = Err e
-  checked before vs (Ok v) = cond (comes-before before (v .label) (look vs (v .zero))) (Ok v) (Err LabelNotAfter)
+  checked before vs (Ok v) = cond (comes_before before v.label (look vs v.zero)) (Ok v) (Err LabelNotAfter)
 
   -- the record after those of the vertices vs
-  abbrev pub record-in : (S → S → Bool) → Travel S → List (Vertex S) → List ℕ → Result (Vertex S) RecordFault
-  record-in before t vs bs = checked before vs (record-of t (length vs + 2) bs)
+  abbrev pub record_in : (S → S → Bool) → Travel S → List (Vertex S) → List ℕ → Result (Vertex S) RecordFault
+  record_in before t vs bs = checked before vs (record_of t (length vs + 2) bs)
 
   -- a record that is right leaves the others to be read; a faulty one ends it, with its place
   abbrev pub onward : ℕ → Result (Vertex S) RecordFault → (Vertex S → Result (List (Vertex S)) FaultyRecord) → Result (List (Vertex S)) FaultyRecord
@@ -56,21 +48,21 @@ module _ {S : Type 0} where
   onward place (Err e) rest = Err (record { place = place; fault = e })
 
   -- n records more, after those of the vertices vs, first to last
-  abbrev pub records-in : (S → S → Bool) → Travel S → ℕ → List (Vertex S) → List ℕ → Result (List (Vertex S)) FaultyRecord
-  records-in before t zero vs bs = Ok vs
-  records-in before t (suc n) vs bs =
-      onward (length vs) (record-in before t vs (take (t .width + 8) bs)) (λ v. records-in before t n (vs ++ v ∷ []) (drop (t .width + 8) bs))
+  abbrev pub records_in : (S → S → Bool) → Travel S → ℕ → List (Vertex S) → List ℕ → Result (List (Vertex S)) FaultyRecord
+  records_in before t zero vs bs = Ok vs
+  records_in before t (suc n) vs bs =
+      onward (length vs) (record_in before t vs (take (t.width + 8) bs)) (λ v. records_in before t n (vs ++ v ∷ []) (drop (t.width + 8) bs))
 
   -- what the label of record k reads as
-  abbrev pub label-read : Travel S → List ℕ → ℕ → Result S SymbolFault
-  label-read t bs k = t .reads (take (t .width) (drop (k * (t .width + 8)) bs))
+  abbrev pub label_read : Travel S → List ℕ → ℕ → Result S SymbolFault
+  label_read t bs k = t.reads (take t.width (drop (k * (t.width + 8)) bs))
 
-  abbrev pub before-read : (S → S → Bool) → S → Result S SymbolFault → Bool
-  before-read before a (Ok b) = before a b
-  before-read before a (Err e) = false
+  abbrev pub before_read : (S → S → Bool) → S → Result S SymbolFault → Bool
+  before_read before a (Ok b) = before a b
+  before_read before a (Err e) = false
 
   -- a label comes before that of a zero link, read from the records, where the zero link is a vertex
-  abbrev pub zero-after : (S → S → Bool) → Travel S → List ℕ → S → ℕ → Bool
-  zero-after before t bs a zero = true
-  zero-after before t bs a (suc zero) = true
-  zero-after before t bs a (suc (suc k)) = before-read before a (label-read t bs k)
+  abbrev pub zero_after : (S → S → Bool) → Travel S → List ℕ → S → ℕ → Bool
+  zero_after before t bs a zero = true
+  zero_after before t bs a (suc zero) = true
+  zero_after before t bs a (suc (suc k)) = before_read before a (label_read t bs k)

@@ -1,10 +1,10 @@
 // Why a dispatch is refused: a symbol's fault inside a record's fault inside the dispatch's.
-ghost use mathlib.Core.Path.{_≡_};
-ghost use Rattle·wire·specs.declared.faults.RecordFault.the-variants.{Label};
-ghost use Rattle·wire·specs.declared.faults.ReceiveFault.the-variants.{Record};
-ghost use Rattle·wire·specs.Refusals.{record-refusal, receive-refusal};
-use symbols::Refusal;
-use symbols::SymbolFault;
+ghost use Rattle.std.specs.Prelude.{◌≡◌};
+ghost use Rattle.wire.specs.declared.faults.RecordFault.TheVariants.{Label};
+ghost use Rattle.wire.specs.declared.faults.ReceiveFault.TheVariants.{Record};
+ghost use Rattle.wire.specs.Refusals.{record_refusal, receive_refusal};
+
+use symbols::{Refusal, SymbolFault};
 
 // What is wrong with one record.
 #[derive(Clone, Copy)]
@@ -46,16 +46,16 @@ pub enum ReceiveFault {
     ShelfFull,
 }
 
-pub impl From<SymbolFault> for RecordFault as RecordFromSymbol {
-    ghost converts = { λ e r. r ≡ Label e };
+impl From<SymbolFault> for RecordFault {
+    ghost from_gives = { λ e r. r ≡ Label e };
 
     fn from(e: SymbolFault) -> RecordFault {
         RecordFault::Label(e)
     }
 }
 
-pub impl From<FaultyRecord> for ReceiveFault as ReceiveFromRecord {
-    ghost converts = { λ e r. r ≡ Record e };
+impl From<FaultyRecord> for ReceiveFault {
+    ghost from_gives = { λ e r. r ≡ Record e };
 
     fn from(e: FaultyRecord) -> ReceiveFault {
         ReceiveFault::Record(e)
@@ -64,7 +64,7 @@ pub impl From<FaultyRecord> for ReceiveFault as ReceiveFromRecord {
 
 impl FaultyRecord {
     pub fn refusal(self) -> Refusal
-        ensures { λ r. ⌜ r ≡ record-refusal self ⌝ }
+        ensures { result ≡ record_refusal self }
     {
         let (number, symbol) = match self.fault {
             RecordFault::Label(fault) => (13, Some(fault)),
@@ -82,7 +82,7 @@ impl FaultyRecord {
 
 impl ReceiveFault {
     pub fn refusal(self) -> Refusal
-        ensures { λ r. ⌜ r ≡ receive-refusal self ⌝ }
+        ensures { result ≡ receive_refusal self }
     {
         let number = match self {
             ReceiveFault::LittleWork => 3,

@@ -1,12 +1,6 @@
 // The first fourteen bytes of a dispatch.
-ghost use Prim.Native.Nat.{_≤_};
-ghost use lib.Dec.{leb};
-ghost use lib.ListN.{length, drop};
-ghost use mathlib.Core.Bool.{cond};
-ghost use mathlib.Core.List.{_++_};
-ghost use mathlib.Core.Path.{_≡_};
-ghost use Rattle·std.specs.declared.option.Option.the-variants.{Some, None};
-ghost use Rattle·wire·specs.Heads.{word-of, head-of, head-part, rest-part, head-bytes};
+ghost use Rattle.std.specs.Prelude.{◌≡◌, ◌≤◌, ◌++◌, length, drop, if◌then◌else◌, Some, None, nat_le};
+ghost use Rattle.wire.specs.Heads.{word_of, head_of, head_part, rest_part, head_bytes};
 
 // The length of the whole, the version, the kind's number, how many vertices, and the root.
 #[derive(Clone, Copy)]
@@ -20,15 +14,15 @@ pub struct Head {
 
 // The number in four bytes, the highest first.
 fn be_word(a: u8, b: u8, c: u8, d: u8) -> u32
-    ensures { λ r. ⌜ r ≡ word-of a b c d ⌝ }
+    ensures { result ≡ word_of a b c d }
 {
     u32::from_be_bytes([a, b, c, d])
 }
 
 // The first fourteen bytes taken apart, and the rest; nothing, where there are fewer.
 pub fn split_head(bytes: &[u8]) -> Option<(Head, &[u8])>
-    ensures head { λ r. ⌜ head-part r ≡ cond (leb 14 (length (now (bytes .entry)))) (Some (head-of (now (bytes .entry)))) None ⌝ }
-    ensures rest { λ r. ⌜ rest-part r ≡ cond (leb 14 (length (now (bytes .entry)))) (Some (drop 14 (now (bytes .entry)))) None ⌝ }
+    ensures head { head_part result ≡ (if nat_le 14 (length bytes.now) then Some (head_of bytes.now) else None) }
+    ensures rest { rest_part result ≡ (if nat_le 14 (length bytes.now) then Some (drop 14 bytes.now) else None) }
 {
     let [
         l0,
@@ -62,28 +56,26 @@ pub fn split_head(bytes: &[u8]) -> Option<(Head, &[u8])>
 
 // Writes the head to the start of `out`.
 pub fn write_head(head: Head, out: &mut [u8])
-    requires { ⌜ 14 ≤ length (now out) ⌝ }
-    ensures { λ _. ⌜ now (out .exit) ≡ head-bytes head ++ drop 14 (now (out .entry)) ⌝ }
+    requires { 14 ≤ length out.old }
+    ensures { out.new ≡ head_bytes head ++ drop 14 out.old }
 {
     let [l0, l1, l2, l3] = head.whole.to_be_bytes();
     let [c0, c1, c2, c3] = head.count.to_be_bytes();
     let [r0, r1, r2, r3] = head.root.to_be_bytes();
-    out[..14].copy_from_slice(
-        &[
-            l0,
-            l1,
-            l2,
-            l3,
-            head.version,
-            head.kind,
-            c0,
-            c1,
-            c2,
-            c3,
-            r0,
-            r1,
-            r2,
-            r3,
-        ],
-    );
+    out[..14].copy_from_slice(&[
+        l0,
+        l1,
+        l2,
+        l3,
+        head.version,
+        head.kind,
+        c0,
+        c1,
+        c2,
+        c3,
+        r0,
+        r1,
+        r2,
+        r3,
+    ]);
 }

@@ -1,21 +1,17 @@
 // The record of a vertex: its label, its zero link and its one link.
-ghost use Prim.Native.Nat.{_+_, _-_, _*_, _≤_};
-ghost use lib.ListN.{length, drop};
-ghost use mathlib.Core.List.{_++_};
-ghost use mathlib.Core.Path.{_≡_};
-ghost use Rattle·ledger.specs.Dispatch.{be4};
-ghost use Rattle·wire·specs.Back.{RecordsBack};
-ghost use Rattle·wire·specs.Records.{travel, record-of, record-bytes, zero-after};
+ghost use Rattle.std.specs.Prelude.{◌≡◌, ◌+◌, ◌-◌, ◌*◌, ◌≤◌, ◌++◌, length, drop};
+ghost use Rattle.ledger.specs.Dispatch.{be4};
+ghost use Rattle.wire.specs.Back.{RecordsBack};
+ghost use Rattle.wire.specs.Records.{travel, record_of, record_bytes, zero_after};
+
 use crate::faults::RecordFault;
-use crate::faults::RecordFromSymbol;
 use ledger::Vertex;
-use symbols::Symbol;
-use symbols::WireSymbol;
+use symbols::{Symbol, WireSymbol};
 
 // The vertex `own`, from the bytes of its record.
 pub fn read_record<S: WireSymbol>(own: u32, bytes: &[u8]) -> Result<Vertex<S>, RecordFault>
-    requires { ⌜ length (now bytes) ≡ S·WireSymbol .width + 8 ⌝ }
-    ensures { λ r. ⌜ r ≡ record-of (travel (S·WireSymbol .kind) (S·WireSymbol .width) (S·WireSymbol .bytes) (S·WireSymbol .reads)) own (now (bytes .entry)) ⌝ }
+    requires { length bytes.now ≡ S.WireSymbol.width + 8 }
+    ensures { result ≡ record_of (travel S.WireSymbol.kind S.WireSymbol.width S.WireSymbol.bytes S.WireSymbol.reads) own bytes.now }
 {
     let (label, links) = bytes.split_at(S::width());
     let label = S::read(label)?;
@@ -35,8 +31,8 @@ pub fn read_record<S: WireSymbol>(own: u32, bytes: &[u8]) -> Result<Vertex<S>, R
 
 // Whether a zero link is no vertex, or its record's label comes after this one.
 pub fn zero_label_after<S: WireSymbol>(label: S, zero: u32, records: &[u8]) -> bool
-    requires { ⌜ (zero - 1) * (S·WireSymbol .width + 8) ≤ length (now records) ⌝ }
-    ensures { λ r. ⌜ r ≡ zero-after (S·Symbol .before) (travel (S·WireSymbol .kind) (S·WireSymbol .width) (S·WireSymbol .bytes) (S·WireSymbol .reads)) (now (records .entry)) label zero ⌝ }
+    requires { (zero - 1) * (S.WireSymbol.width + 8) ≤ length records.now }
+    ensures { result ≡ zero_after S.Symbol.before (travel S.WireSymbol.kind S.WireSymbol.width S.WireSymbol.bytes S.WireSymbol.reads) records.now label zero }
 {
     if zero < 2 {
         return true;
@@ -51,8 +47,8 @@ pub fn zero_label_after<S: WireSymbol>(label: S, zero: u32, records: &[u8]) -> b
 
 // Writes two links to the start of `out`.
 fn write_links(zero: u32, one: u32, out: &mut [u8])
-    requires { ⌜ 8 ≤ length (now out) ⌝ }
-    ensures { λ _. ⌜ now (out .exit) ≡ be4 zero ++ (be4 one ++ drop 8 (now (out .entry))) ⌝ }
+    requires { 8 ≤ length out.old }
+    ensures { out.new ≡ be4 zero ++ (be4 one ++ drop 8 out.old) }
 {
     let [z0, z1, z2, z3] = zero.to_be_bytes();
     let [o0, o1, o2, o3] = one.to_be_bytes();
@@ -61,8 +57,8 @@ fn write_links(zero: u32, one: u32, out: &mut [u8])
 
 // Writes the record of a vertex to the start of `out`.
 pub fn write_record<S: WireSymbol>(v: &Vertex<S>, out: &mut [u8])
-    requires { ⌜ S·WireSymbol .width + 8 ≤ length (now out) ⌝ }
-    ensures { λ _. ⌜ now (out .exit) ≡ record-bytes (S·WireSymbol .bytes) (now (v .entry)) ++ drop (S·WireSymbol .width + 8) (now (out .entry)) ⌝ }
+    requires { S.WireSymbol.width + 8 ≤ length out.old }
+    ensures { out.new ≡ record_bytes S.WireSymbol.bytes v.now ++ drop (S.WireSymbol.width + 8) out.old }
 {
     v.label.write(out);
     write_links(v.zero, v.one, &mut out[S::width()..]);
@@ -70,7 +66,7 @@ pub fn write_record<S: WireSymbol>(v: &Vertex<S>, out: &mut [u8])
 
 // What is written of formed vertices reads back as those vertices.
 pub fn records_read_back<S: WireSymbol>() -> u8
-    ensures { λ _. ⌜ RecordsBack (S·Symbol .before) (travel (S·WireSymbol .kind) (S·WireSymbol .width) (S·WireSymbol .bytes) (S·WireSymbol .reads)) ⌝ }
+    ensures { RecordsBack S.Symbol.before (travel S.WireSymbol.kind S.WireSymbol.width S.WireSymbol.bytes S.WireSymbol.reads) }
 {
     0
 }

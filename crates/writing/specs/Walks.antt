@@ -1,28 +1,21 @@
 -- The walk that meets the vertices of a list: a means of the proofs.
-use mathlib.Core.Path.{_≡_}
-use mathlib.Core.Bool.{Bool}
-use mathlib.Core.List.{List, [], _∷_, map}
-use mathlib.Core.Logic.{_⊎_}
-use Prim.Native.Nat.{ℕ, zero, suc, _+_, _-_, _*_, _<_, _≤_}
-use lib.ListN.{length}
-use Rattle·std.specs.declared.option.Option.{Option}
-use Rattle·std.specs.declared.option.Option.the-variants.{Some, None}
-use Rattle·memory.specs.declared.work.Place.{Place}
-use Rattle·ledger.specs.declared.Vertex.{Vertex}
-use Rattle·ledger.specs.Lists.{Codes}
-use Rattle·ledger.specs.Diagrams.{look}
-use Rattle·ledger.specs.Ledger.{lay, codes}
-use Rattle·writing·specs.Met.{list-at, met-numbers, Sparse, Met, Unmet}
-use Rattle·writing·specs.declared.walk.Course.{Course}
+use Rattle.std.specs.Prelude.{◌≡◌, ℕ, zero, suc, ◌+◌, ◌-◌, ◌*◌, ◌<◌, ◌≤◌, Bool, ◌⊎◌, List, [], ◌∷◌, map, length, Some, None, Option}
+use Rattle.memory.specs.declared.work.Place.{Place}
+use Rattle.ledger.specs.declared.Vertex.{Vertex}
+use Rattle.ledger.specs.Lists.{Codes}
+use Rattle.ledger.specs.Diagrams.{look}
+use Rattle.ledger.specs.Ledger.{lay, codes}
+use Rattle.writing.specs.Met.{list_at, met_numbers, Sparse, Met, Unmet}
+use Rattle.writing.specs.declared.walk.Course.{Course}
 
 -- a place on the stack
-abbrev pub waiting-place : ℕ → Place
-waiting-place n = record { state = 0; list = n; other = 0; number = 0; count = 0 }
+abbrev pub waiting_place : ℕ → Place
+waiting_place n = record { state = 0; list = n; other = 0; number = 0; count = 0 }
 
 -- the numbers that wait, the last first
 abbrev pub waiting : List Place → ℕ → List ℕ
 waiting ps zero = []
-waiting ps (suc d) = list-at ps d ∷ waiting ps d
+waiting ps (suc d) = list_at ps d ∷ waiting ps d
 
 abbrev pub Above : ℕ → List ℕ → Type 0
 Above n [] = Unit {0}
@@ -34,7 +27,7 @@ Stacked ps m [] = Unit {0}
 Stacked ps m (n ∷ ns) = (2 ≤ n) × (n + length ns ≤ length ps + 1) × Unmet ps m n × Above n ns × Stacked ps m ns
 
 abbrev pub Walking : List Place → List Place → Course → Type 0
-Walking seen stack c = (c .met ≤ length seen) × Sparse seen (c .met) × Stacked seen (c .met) (waiting stack (c .depth))
+Walking seen stack c = (c.met ≤ length seen) × Sparse seen c.met × Stacked seen c.met (waiting stack c.depth)
 
 -- the first link that is not met
 abbrev pub NextBelow : List Place → ℕ → ℕ → Option ℕ → Type 0
@@ -45,38 +38,38 @@ abbrev pub Passed : List Place → ℕ → ℕ → Type 0
 Passed ps m link = (link < 2) ⊎ Met ps m link
 
 abbrev pub NextLink : {S : Type 0} → List (Vertex S) → List Place → ℕ → ℕ → Option ℕ → Type 0
-NextLink {S} vs ps m n None = (v : Vertex S) × (look vs n ≡ Some v) × Passed ps m (v .zero) × Passed ps m (v .one)
+NextLink {S} vs ps m n None = (v : Vertex S) × (look vs n ≡ Some v) × Passed ps m v.zero × Passed ps m v.one
 NextLink {S} vs ps m n (Some link) =
-    (v : Vertex S) × (look vs n ≡ Some v) × ((link ≡ v .zero) ⊎ (Passed ps m (v .zero) × (link ≡ v .one)))
+    (v : Vertex S) × (look vs n ≡ Some v) × ((link ≡ v.zero) ⊎ (Passed ps m v.zero × (link ≡ v.one)))
 
 -- how much a walk may still take
-abbrev pub first-of : List ℕ → ℕ
-first-of [] = 0
-first-of (n ∷ ns) = n
+abbrev pub first_of : List ℕ → ℕ
+first_of [] = 0
+first_of (n ∷ ns) = n
 
-abbrev pub last-waiting : List Place → ℕ → ℕ
-last-waiting ps d = first-of (waiting ps d)
+abbrev pub last_waiting : List Place → ℕ → ℕ
+last_waiting ps d = first_of (waiting ps d)
 
 abbrev pub left : List Place → List Place → Course → ℕ
-left seen stack c = (length seen - c .met) * (length seen + 2) + last-waiting stack (c .depth)
+left seen stack c = (length seen - c.met) * (length seen + 2) + last_waiting stack c.depth
 
 abbrev pub Turns : List Place → List Place → Course → Option Course → List Place → List Place → Type 0
-Turns seen stack c None seen-after stack-after = (c .depth ≡ 0) × (seen-after ≡ seen)
-Turns seen stack c (Some next) seen-after stack-after =
-    Walking seen-after stack-after next × (left seen-after stack-after next < left seen stack c)
+Turns seen stack c None seen_after stack_after = (c.depth ≡ 0) × (seen_after ≡ seen)
+Turns seen stack c (Some next) seen_after stack_after =
+    Walking seen_after stack_after next × (left seen_after stack_after next < left seen stack c)
 
 -- the lists of those that wait are laid down, the last first
-abbrev pub laying-all : {S : Type 0} → (S → S → Bool) → List (Vertex S) → List ℕ → List (Codes S) → List (Codes S)
-laying-all before vs [] row = row
-laying-all before vs (n ∷ ns) row = laying-all before vs ns (lay before row (codes vs n))
+abbrev pub laying_all : {S : Type 0} → (S → S → Bool) → List (Vertex S) → List ℕ → List (Codes S) → List (Codes S)
+laying_all before vs [] row = row
+laying_all before vs (n ∷ ns) row = laying_all before vs ns (lay before row (codes vs n))
 
 -- where a walk leads: to the row of the lists that are met, after those that wait are laid down
 abbrev pub target : {S : Type 0} → (S → S → Bool) → List (Vertex S) → List Place → List Place → Course → List (Codes S)
-target before vs seen stack c = laying-all before vs (waiting stack (c .depth)) (map (codes vs) (met-numbers seen (c .met)))
+target before vs seen stack c = laying_all before vs (waiting stack c.depth) (map (codes vs) (met_numbers seen c.met))
 
 abbrev pub TurnsTo : {S : Type 0} → (S → S → Bool) → List (Vertex S) → List Place → List Place → Course → Option Course → List Place → List Place → Type 0
-TurnsTo before vs seen stack c None seen-after stack-after = Unit {0}
-TurnsTo before vs seen stack c (Some next) seen-after stack-after = target before vs seen-after stack-after next ≡ target before vs seen stack c
+TurnsTo before vs seen stack c None seen_after stack_after = Unit {0}
+TurnsTo before vs seen stack c (Some next) seen_after stack_after = target before vs seen_after stack_after next ≡ target before vs seen stack c
 
 -- the list waits, if it is a vertex
 abbrev pub starting : ℕ → List ℕ
@@ -85,4 +78,4 @@ starting (suc zero) = []
 starting (suc (suc k)) = suc (suc k) ∷ []
 
 abbrev pub Starts : ℕ → Course → List Place → Type 0
-Starts list c stack = (c .met ≡ 0) × (waiting stack (c .depth) ≡ starting list)
+Starts list c stack = (c.met ≡ 0) × (waiting stack c.depth ≡ starting list)

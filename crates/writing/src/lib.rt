@@ -3,26 +3,26 @@
 // A walk from the list meets its vertices in the order in which laying the list down in an empty ledger numbers them; then
 // the length is known, and the head and the records are written. The time is linear in the vertices that are reached; no
 // other part of the work space is read or written.
+#![tactic(auto)]
+
 mod met;
 mod records;
 mod walk;
 
-ghost use Prim.Native.Nat.{_+_, _*_, _≤_};
-ghost use lib.ListN.{length};
-ghost use mathlib.Core.Path.{_≡_};
-ghost use Rattle·ledger.specs.Diagrams.{Good, Sound};
-ghost use Rattle·ledger.specs.Ledger.{codes};
-ghost use Rattle·wire.specs.Records.{travel};
-ghost use Rattle·wire.specs.Written.{written};
-ghost use Rattle·writing·specs.Writes.{Writes, PastKept};
+ghost use Rattle.std.specs.Prelude.{◌≡◌, ◌+◌, ◌*◌, ◌≤◌, length};
+ghost use Rattle.ledger.specs.Diagrams.{Good, Sound};
+ghost use Rattle.ledger.specs.Ledger.{codes};
+ghost use Rattle.wire.specs.Records.{travel};
+ghost use Rattle.wire.specs.Written.{written};
+ghost use Rattle.writing.specs.Writes.{Writes, PastKept};
+
 use crate::met::new_link;
 use crate::records::write_records;
 use crate::walk::walk;
 use memory::shelf::Shelf;
 use memory::work::Place;
 use symbols::WireSymbol;
-use wire::head::Head;
-use wire::head::write_head;
+use wire::head::{Head, write_head};
 
 // The output is too short for the dispatch.
 #[derive(Clone, Copy)]
@@ -35,10 +35,10 @@ pub fn write<S: WireSymbol, B: Shelf<S>>(
     out: &mut [u8],
     work: &mut [Place],
 ) -> Result<usize, ShortOutput>
-    requires room { ⌜ 2 * B·Shelf .capacity (now shelf) + 256 ≤ length (now work) ⌝ }
-    requires good { ⌜ list ≤ length (B·Shelf .vertices (now shelf)) + 1 ⌝ }
-    ensures kept { λ r. ⌜ PastKept (now (out .entry)) r (now (out .exit)) ⌝ }
-    ensures answer { λ r. ⌜ (Sound (S·Symbol .before) (B·Shelf .vertices (now (shelf .entry))) → Writes (written (S·Symbol .before) (travel (S·WireSymbol .kind) (S·WireSymbol .width) (S·WireSymbol .bytes) (S·WireSymbol .reads)) (codes (B·Shelf .vertices (now (shelf .entry))) list)) (now (out .entry)) r (now (out .exit))) ⌝ }
+    requires room { 2 * B.Shelf.capacity shelf.now + 256 ≤ length work.old }
+    requires good { list ≤ length (B.Shelf.vertices shelf.now) + 1 }
+    ensures kept { PastKept out.old result out.new }
+    ensures answer { Sound S.Symbol.before (B.Shelf.vertices shelf.now) → Writes (written S.Symbol.before (travel S.WireSymbol.kind S.WireSymbol.width S.WireSymbol.bytes S.WireSymbol.reads) (codes (B.Shelf.vertices shelf.now) list)) out.old result out.new }
 {
     let used = shelf.used() as usize;
     let (seen, stack) = work.split_at_mut(used);

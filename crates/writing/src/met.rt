@@ -1,18 +1,17 @@
 // The vertices that a walk has met, in their order, and where each stands in it. Place k has the number of the k-th vertex
 // as its `list`; the place of vertex n, n - 2, has where it stands as its `number`. What lay there before the walk is
 // never trusted: a vertex is met only if the two point at each other.
-ghost use Prim.Native.Nat.{_+_, _-_, _<_, _≤_};
-ghost use lib.ListN.{length};
-ghost use mathlib.Core.Path.{_≡_};
-ghost use Rattle·writing·specs.Met.{Sparse, Stands, Unmet, Met, MetOrNot, NewLink, with-met};
+ghost use Rattle.std.specs.Prelude.{◌≡◌, ◌+◌, ◌-◌, ◌<◌, ◌≤◌, length};
+ghost use Rattle.writing.specs.Met.{Sparse, Stands, Unmet, Met, MetOrNot, NewLink, with_met};
+
 use memory::work::Place;
 
 // Where a vertex stands in the order; nothing if it is not met.
 pub(crate) fn find_met(seen: &[Place], met: u32, n: u32) -> Option<u32>
-    requires few { ⌜ met ≤ length (now seen) ⌝ }
-    requires vertex { ⌜ (2 ≤ n) × (n ≤ length (now seen) + 1) ⌝ }
-    requires sparse { ⌜ Sparse (now seen) met ⌝ }
-    ensures { λ r. ⌜ Stands (now (seen .entry)) met n r ⌝ }
+    requires few { met ≤ length seen.now }
+    requires vertex { (2 ≤ n) × (n ≤ length seen.now + 1) }
+    requires sparse { Sparse seen.now met }
+    ensures { Stands seen.now met n result }
 {
     let own = seen[(n - 2) as usize];
     let k = own.number;
@@ -28,10 +27,10 @@ pub(crate) fn find_met(seen: &[Place], met: u32, n: u32) -> Option<u32>
 
 // Whether a link is a vertex that is not met yet.
 pub(crate) fn is_unmet(seen: &[Place], met: u32, link: u32) -> bool
-    requires few { ⌜ met ≤ length (now seen) ⌝ }
-    requires good { ⌜ link ≤ length (now seen) + 1 ⌝ }
-    requires sparse { ⌜ Sparse (now seen) met ⌝ }
-    ensures { λ r. ⌜ MetOrNot (now (seen .entry)) met link r ⌝ }
+    requires few { met ≤ length seen.now }
+    requires good { link ≤ length seen.now + 1 }
+    requires sparse { Sparse seen.now met }
+    ensures { MetOrNot seen.now met link result }
 {
     if link < 2 {
         return false;
@@ -44,9 +43,9 @@ pub(crate) fn is_unmet(seen: &[Place], met: u32, link: u32) -> bool
 
 // The vertex becomes the next in the order.
 pub(crate) fn meet(seen: &mut [Place], met: u32, n: u32)
-    requires few { ⌜ met < length (now seen) ⌝ }
-    requires vertex { ⌜ (2 ≤ n) × (n ≤ length (now seen) + 1) ⌝ }
-    ensures { λ _. ⌜ now (seen .exit) ≡ with-met (now (seen .entry)) met n ⌝ }
+    requires few { met < length seen.old }
+    requires vertex { (2 ≤ n) × (n ≤ length seen.old + 1) }
+    ensures { seen.new ≡ with_met seen.old met n }
 {
     let next = seen[met as usize];
     seen[met as usize] = Place { list: n, ..next };
@@ -56,11 +55,11 @@ pub(crate) fn meet(seen: &mut [Place], met: u32, n: u32)
 
 // A link's number in the dispatch: terminals stay, and the vertices that are met are numbered from 2 in their order.
 pub(crate) fn new_link(seen: &[Place], met: u32, link: u32) -> u32
-    requires few { ⌜ met ≤ length (now seen) ⌝ }
-    requires short { ⌜ length (now seen) ≤ 1000000 ⌝ }
-    requires good { ⌜ link ≤ length (now seen) + 1 ⌝ }
-    requires sparse { ⌜ Sparse (now seen) met ⌝ }
-    ensures { λ r. ⌜ NewLink (now (seen .entry)) met link r ⌝ }
+    requires few { met ≤ length seen.now }
+    requires short { length seen.now ≤ 1000000 }
+    requires good { link ≤ length seen.now + 1 }
+    requires sparse { Sparse seen.now met }
+    ensures { NewLink seen.now met link result }
 {
     if link < 2 {
         return link;

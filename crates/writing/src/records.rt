@@ -1,10 +1,9 @@
 // The records of the vertices that a walk has met, in their order.
-ghost use Prim.Native.Nat.{_+_, _*_, _<_, _≤_};
-ghost use lib.ListN.{length, drop};
-ghost use mathlib.Core.Path.{_≡_};
-ghost use Rattle·ledger.specs.Diagrams.{Formed};
-ghost use Rattle·writing·specs.Met.{Sparse};
-ghost use Rattle·writing·specs.Records.{Renumbered, PutAt, Filled};
+ghost use Rattle.std.specs.Prelude.{◌≡◌, ◌+◌, ◌*◌, ◌<◌, ◌≤◌, length, drop};
+ghost use Rattle.ledger.specs.Diagrams.{Formed};
+ghost use Rattle.writing.specs.Met.{Sparse};
+ghost use Rattle.writing.specs.Records.{Renumbered, PutAt, Filled};
+
 use crate::met::new_link;
 use ledger::Vertex;
 use memory::reading::read_vertex;
@@ -20,11 +19,11 @@ fn renumbered<S: WireSymbol, B: Shelf<S>>(
     met: u32,
     k: u32,
 ) -> Option<Vertex<S>>
-    requires few { ⌜ met ≤ length (now seen) ⌝ }
-    requires short { ⌜ length (now seen) ≤ 1000000 ⌝ }
-    requires sparse { ⌜ Sparse (now seen) met ⌝ }
-    requires here { ⌜ k < met ⌝ }
-    ensures { λ r. ⌜ (Formed (S·Symbol .before) (B·Shelf .vertices (now (shelf .entry))) → length (now (seen .entry)) ≡ length (B·Shelf .vertices (now (shelf .entry))) → Renumbered (B·Shelf .vertices (now (shelf .entry))) (now (seen .entry)) met k r) ⌝ }
+    requires few { met ≤ length seen.now }
+    requires short { length seen.now ≤ 1000000 }
+    requires sparse { Sparse seen.now met }
+    requires here { k < met }
+    ensures { Formed S.Symbol.before (B.Shelf.vertices shelf.now) → length seen.now ≡ length (B.Shelf.vertices shelf.now) → Renumbered (B.Shelf.vertices shelf.now) seen.now met k result }
 {
     let place = seen[k as usize];
     let Some((label, zero, one)) = read_vertex(shelf, place.list) else {
@@ -45,13 +44,13 @@ fn write_kth<S: WireSymbol, B: Shelf<S>>(
     k: u32,
     out: &mut [u8],
 )
-    requires few { ⌜ met ≤ length (now seen) ⌝ }
-    requires short { ⌜ length (now seen) ≤ 1000000 ⌝ }
-    requires sparse { ⌜ Sparse (now seen) met ⌝ }
-    requires here { ⌜ k < met ⌝ }
-    requires room { ⌜ 14 + met * (S·WireSymbol .width + 8) ≤ length (now out) ⌝ }
-    ensures kept { λ _. ⌜ drop (14 + (k + 1) * (S·WireSymbol .width + 8)) (now (out .exit)) ≡ drop (14 + (k + 1) * (S·WireSymbol .width + 8)) (now (out .entry)) ⌝ }
-    ensures value { λ _. ⌜ (Formed (S·Symbol .before) (B·Shelf .vertices (now (shelf .entry))) → length (now (seen .entry)) ≡ length (B·Shelf .vertices (now (shelf .entry))) → PutAt (B·Shelf .vertices (now (shelf .entry))) (now (seen .entry)) met k (S·WireSymbol .width) (S·WireSymbol .bytes) (now (out .entry)) (now (out .exit))) ⌝ }
+    requires few { met ≤ length seen.now }
+    requires short { length seen.now ≤ 1000000 }
+    requires sparse { Sparse seen.now met }
+    requires here { k < met }
+    requires room { 14 + met * (S.WireSymbol.width + 8) ≤ length out.old }
+    ensures kept { drop (14 + (k + 1) * (S.WireSymbol.width + 8)) out.new ≡ drop (14 + (k + 1) * (S.WireSymbol.width + 8)) out.old }
+    ensures value { Formed S.Symbol.before (B.Shelf.vertices shelf.now) → length seen.now ≡ length (B.Shelf.vertices shelf.now) → PutAt (B.Shelf.vertices shelf.now) seen.now met k S.WireSymbol.width S.WireSymbol.bytes out.old out.new }
 {
     let size = S::width() + 8;
     let from = 14 + k as usize * size;
@@ -68,12 +67,12 @@ pub(crate) fn write_records<S: WireSymbol, B: Shelf<S>>(
     met: u32,
     out: &mut [u8],
 )
-    requires few { ⌜ met ≤ length (now seen) ⌝ }
-    requires short { ⌜ length (now seen) ≤ 1000000 ⌝ }
-    requires sparse { ⌜ Sparse (now seen) met ⌝ }
-    requires room { ⌜ 14 + met * (S·WireSymbol .width + 8) ≤ length (now out) ⌝ }
-    ensures kept { λ _. ⌜ drop (14 + met * (S·WireSymbol .width + 8)) (now (out .exit)) ≡ drop (14 + met * (S·WireSymbol .width + 8)) (now (out .entry)) ⌝ }
-    ensures value { λ _. ⌜ (Formed (S·Symbol .before) (B·Shelf .vertices (now (shelf .entry))) → length (now (seen .entry)) ≡ length (B·Shelf .vertices (now (shelf .entry))) → Filled (B·Shelf .vertices (now (shelf .entry))) (now (seen .entry)) met met (S·WireSymbol .width) (S·WireSymbol .bytes) (now (out .entry)) (now (out .exit))) ⌝ }
+    requires few { met ≤ length seen.now }
+    requires short { length seen.now ≤ 1000000 }
+    requires sparse { Sparse seen.now met }
+    requires room { 14 + met * (S.WireSymbol.width + 8) ≤ length out.old }
+    ensures kept { drop (14 + met * (S.WireSymbol.width + 8)) out.new ≡ drop (14 + met * (S.WireSymbol.width + 8)) out.old }
+    ensures value { Formed S.Symbol.before (B.Shelf.vertices shelf.now) → length seen.now ≡ length (B.Shelf.vertices shelf.now) → Filled (B.Shelf.vertices shelf.now) seen.now met met S.WireSymbol.width S.WireSymbol.bytes out.old out.new }
 {
     for k in 0..met {
         write_kth(shelf, seen, met, k, out);

@@ -1,15 +1,12 @@
 // The walk from a list: a vertex's zero link, its one link, then the vertex itself, each vertex once. The vertices that
 // wait for their links lie on a stack; their numbers fall along it, so it is never deeper than there are vertices.
-ghost use Prim.Native.Nat.{_+_, _-_, _<_, _≤_};
-ghost use lib.ListN.{length, set};
-ghost use mathlib.Core.List.{map, []};
-ghost use mathlib.Core.Path.{_≡_};
-ghost use Rattle·ledger.specs.Diagrams.{Formed, Sound};
-ghost use Rattle·ledger.specs.Ledger.{codes, lay};
-ghost use Rattle·writing·specs.Met.{Sparse, list-at, met-numbers};
-ghost use Rattle·writing·specs.Walks.{waiting-place, NextBelow, NextLink, Walking, Turns, TurnsTo, Starts};
-use crate::met::is_unmet;
-use crate::met::meet;
+ghost use Rattle.std.specs.Prelude.{◌≡◌, ◌+◌, ◌-◌, ◌<◌, ◌≤◌, [], map, length, slice_set};
+ghost use Rattle.ledger.specs.Diagrams.{Formed, Sound};
+ghost use Rattle.ledger.specs.Ledger.{codes, lay};
+ghost use Rattle.writing.specs.Met.{Sparse, list_at, met_numbers};
+ghost use Rattle.writing.specs.Walks.{waiting_place, NextBelow, NextLink, Walking, Turns, TurnsTo, Starts};
+
+use crate::met::{is_unmet, meet};
 use memory::reading::read_vertex;
 use memory::shelf::Shelf;
 use memory::work::Place;
@@ -24,12 +21,12 @@ struct Course {
 
 // The first link of a vertex that is not met yet, if there is one.
 fn next_link<S: Symbol, B: Shelf<S>>(shelf: &B, n: u32, seen: &[Place], met: u32) -> Option<u32>
-    requires few { ⌜ met ≤ length (now seen) ⌝ }
-    requires vertex { ⌜ (2 ≤ n) × (n ≤ length (now seen) + 1) ⌝ }
-    requires sparse { ⌜ Sparse (now seen) met ⌝ }
-    requires size { ⌜ length (now seen) ≡ length (B·Shelf .vertices (now shelf)) ⌝ }
-    ensures below { λ r. ⌜ NextBelow (now (seen .entry)) met n r ⌝ }
-    ensures value { λ r. ⌜ (Formed (S·Symbol .before) (B·Shelf .vertices (now (shelf .entry))) → NextLink (B·Shelf .vertices (now (shelf .entry))) (now (seen .entry)) met n r) ⌝ }
+    requires few { met ≤ length seen.now }
+    requires vertex { (2 ≤ n) × (n ≤ length seen.now + 1) }
+    requires sparse { Sparse seen.now met }
+    requires size { length seen.now ≡ length (B.Shelf.vertices shelf.now) }
+    ensures below { NextBelow seen.now met n result }
+    ensures value { Formed S.Symbol.before (B.Shelf.vertices shelf.now) → NextLink (B.Shelf.vertices shelf.now) seen.now met n result }
 {
     let Some((_, zero, one)) = read_vertex(shelf, n) else {
         return None;
@@ -44,8 +41,8 @@ fn next_link<S: Symbol, B: Shelf<S>>(shelf: &B, n: u32, seen: &[Place], met: u32
 }
 
 fn push(stack: &mut [Place], depth: u32, n: u32)
-    requires { ⌜ depth < length (now stack) ⌝ }
-    ensures { λ _. ⌜ now (stack .exit) ≡ set (now (stack .entry)) depth (waiting-place n) ⌝ }
+    requires { depth < length stack.old }
+    ensures { stack.new ≡ slice_set stack.old depth (waiting_place n) }
 {
     stack[depth as usize] = Place {
         state: 0,
@@ -58,8 +55,8 @@ fn push(stack: &mut [Place], depth: u32, n: u32)
 
 // The number that waits last.
 fn last_waiting(stack: &[Place], depth: u32) -> u32
-    requires { ⌜ (0 < depth) × (depth ≤ length (now stack)) ⌝ }
-    ensures { λ r. ⌜ r ≡ list-at (now (stack .entry)) (depth - 1) ⌝ }
+    requires { (0 < depth) × (depth ≤ length stack.now) }
+    ensures { result ≡ list_at stack.now (depth - 1) }
 {
     let place = stack[(depth - 1) as usize];
     place.list
@@ -72,11 +69,11 @@ fn turn<S: Symbol, B: Shelf<S>>(
     seen: &mut [Place],
     stack: &mut [Place],
 ) -> Option<Course>
-    requires size { ⌜ length (now seen) ≡ length (B·Shelf .vertices (now shelf)) ⌝ }
-    requires room { ⌜ length (now seen) ≤ length (now stack) ⌝ }
-    requires walking { ⌜ Walking (now seen) (now stack) course ⌝ }
-    ensures walking { λ r. ⌜ Turns (now (seen .entry)) (now (stack .entry)) course r (now (seen .exit)) (now (stack .exit)) ⌝ }
-    ensures value { λ r. ⌜ (Sound (S·Symbol .before) (B·Shelf .vertices (now (shelf .entry))) → TurnsTo (S·Symbol .before) (B·Shelf .vertices (now (shelf .entry))) (now (seen .entry)) (now (stack .entry)) course r (now (seen .exit)) (now (stack .exit))) ⌝ }
+    requires size { length seen.old ≡ length (B.Shelf.vertices shelf.now) }
+    requires room { length seen.old ≤ length stack.old }
+    requires walking { Walking seen.old stack.old course }
+    ensures walking { Turns seen.old stack.old course result seen.new stack.new }
+    ensures value { Sound S.Symbol.before (B.Shelf.vertices shelf.now) → TurnsTo S.Symbol.before (B.Shelf.vertices shelf.now) seen.old stack.old course result seen.new stack.new }
 {
     if course.depth == 0 {
         return None;
@@ -102,8 +99,8 @@ fn turn<S: Symbol, B: Shelf<S>>(
 
 // The start of a walk: the list waits, if it is a vertex.
 fn start(list: u32, stack: &mut [Place]) -> Course
-    requires { ⌜ list ≤ length (now stack) + 1 ⌝ }
-    ensures { λ r. ⌜ Starts list r (now (stack .exit)) ⌝ }
+    requires { list ≤ length stack.old + 1 }
+    ensures { Starts list result stack.new }
 {
     if list < 2 {
         return Course { met: 0, depth: 0 };
@@ -119,11 +116,11 @@ pub(crate) fn walk<S: Symbol, B: Shelf<S>>(
     seen: &mut [Place],
     stack: &mut [Place],
 ) -> u32
-    requires good { ⌜ list ≤ length (now seen) + 1 ⌝ }
-    requires size { ⌜ length (now seen) ≡ length (B·Shelf .vertices (now shelf)) ⌝ }
-    requires room { ⌜ length (now seen) ≤ length (now stack) ⌝ }
-    ensures sparse { λ r. ⌜ (r ≤ length (now (seen .exit))) × Sparse (now (seen .exit)) r ⌝ }
-    ensures value { λ r. ⌜ (Sound (S·Symbol .before) (B·Shelf .vertices (now (shelf .entry))) → map (codes (B·Shelf .vertices (now (shelf .entry)))) (met-numbers (now (seen .exit)) r) ≡ lay (S·Symbol .before) [] (codes (B·Shelf .vertices (now (shelf .entry))) list)) ⌝ }
+    requires good { list ≤ length seen.old + 1 }
+    requires size { length seen.old ≡ length (B.Shelf.vertices shelf.now) }
+    requires room { length seen.old ≤ length stack.old }
+    ensures sparse { (result ≤ length seen.new) × Sparse seen.new result }
+    ensures value { Sound S.Symbol.before (B.Shelf.vertices shelf.now) → map (codes (B.Shelf.vertices shelf.now)) (met_numbers seen.new result) ≡ lay S.Symbol.before [] (codes (B.Shelf.vertices shelf.now) list) }
 {
     let mut course = start(list, stack);
     while let Some(next) = turn(shelf, course, seen, stack) {

@@ -1,62 +1,59 @@
-use mathlib.Core.Path.{_≡_, refl, _∙_, subst}
-use native.Mathlib.Omega.{arith}
-use Prim.Native.Nat.{ℕ, _<_}
-use lib.ListN.{length}
-use Rattle·ledger.specs.Ledger.{lay, lists}
-use Rattle·joining·specs.Rules.{number-of}
-use Rattle·joining·specs.Pairs.{joint}
-use Rattle·joining·specs.Walks.{answered, Running, Walked}
-use Rattle·joining·specs.declared.turns.State.{State}
-use Rattle·joining·proofs.Refused.{at-err}
-use Rattle·joining·proofs.Turning.{begins, ends}
-use Rattle·joining·proofs.walk.Needs as need
+use Rattle.std.proofs.Common.{◌≡◌, ℕ, ◌<◌, length, refl, ◌∙◌, subst, arith}
+use Rattle.ledger.specs.Ledger.{lay, lists}
+use Rattle.joining.specs.Rules.{number_of}
+use Rattle.joining.specs.Pairs.{joint}
+use Rattle.joining.specs.Walks.{answered, Running, Walked}
+use Rattle.joining.specs.declared.turns.State.{State}
+use Rattle.joining.proofs.Refused.{at_err}
+use Rattle.joining.proofs.Turning.{begins, ends}
+use Rattle.joining.proofs.walk.Goals as goal
 
-pub loop-n-holds : need.loop-n-holds
-loop-n-holds g c = (record { reaches = omega arith; frames = λ n h. absurd (omega arith) }, λ h. h, refl, λ ready old goal R. R)
+pub loop-n-init : goal.loop-n-init
+loop-n-init g c = (record { reaches = omega arith; frames = λ n h. absurd (omega arith) }, λ h. h, refl, λ ready old goal R. R)
 
-pub returns-in-Some : need.returns-in-Some
+pub returns-in-Some : goal.returns-in-Some
 returns-in-Some g c =
-    let e = c .in-Some .ensures tt in
+    let e = c.in-Some.ensures in
     record {
       answer = λ ready sound first second right.
-          let vs = g .B·Shelf .vertices (c .args .shelf .now) in
-          let goal = joint (g .S·Symbol .before) vs (number-of (c .args .rule)) (c .args .pair) in
-          let R = c .loop-n .inv .3 ready vs goal (begins (g .S·Symbol .before) vs (number-of (c .args .rule)) _ (c .args .work .now) (c .args .pair) sound first second right) in
-          let is : c .loop-n .state ≡ answered 0 (c .in-Some .n) = λ i. record { height = e .0 i; turn = e .1 i } in (
-            ends (g .S·Symbol .before) vs (number-of (c .args .rule)) goal _ _ (c .loop-n .work) (c .in-Some .n)
-                (subst (λ (s : State). Running (g .S·Symbol .before) vs (number-of (c .args .rule)) goal (g .B·Shelf .vertices (c .loop-n .shelf)) (g .R·RecallTable .table (c .loop-n .recall)) (c .loop-n .work) s) is R),
-            R .right,
+          let vs = g.B.Shelf.vertices c.args.shelf.now in
+          let goal = joint g.S.Symbol.before vs (number_of c.args.rule) c.args.pair in
+          let R = c.loop-n.invariant.3 ready vs goal (begins g.S.Symbol.before vs (number_of c.args.rule) _ c.args.work.now c.args.pair sound first second right) in
+          let is : c.loop-n.state ≡ answered 0 c.in-Some.n = λ i. record { height = e.0 i; turn = e.1 i } in (
+            ends g.S.Symbol.before vs (number_of c.args.rule) goal _ _ c.loop-n.work c.in-Some.n
+                (subst (λ (s : State). Running g.S.Symbol.before vs (number_of c.args.rule) goal (g.B.Shelf.vertices c.loop-n.shelf) (g.R.RecallTable.table c.loop-n.recall) c.loop-n.work s) is R),
+            R.right,
           );
-      ready = c .loop-n .inv .1;
-      size = c .loop-n .inv .2;
+      ready = c.loop-n.invariant.1;
+      size = c.loop-n.invariant.2;
     }
 
-pub advance-requires : need.advance-requires
-advance-requires g c κs = record { fits = c .loop-n .inv .0; unended = c .in-rest .ensures tt }
+pub advance-requires : goal.advance-requires
+advance-requires g c = record { fits = c.loop-n.invariant.0; unended = c.in_default.ensures }
 
-pub returns-in-Break-state : need.returns-in-Break-state
-returns-in-Break-state g c =
+pub returns-in_err-state : goal.returns-in_err-state
+returns-in_err-state g c =
     record {
       answer = λ ready sound first second right.
-          let vs = g .B·Shelf .vertices (c .args .shelf .now) in
-          let goal = joint (g .S·Symbol .before) vs (number-of (c .args .rule)) (c .args .pair) in
-          let R = c .loop-n .inv .3 ready vs goal (begins (g .S·Symbol .before) vs (number-of (c .args .rule)) _ (c .args .work .now) (c .args .pair) sound first second right) in
-          let t = c .in-Break-state .ensures tt .turns (c .loop-n .inv .1 ready) vs goal R in
-          at-err (λ r. Walked (g .S·Symbol .before) (g .B·Shelf .capacity (c .args .shelf .now)) vs goal r (g .B·Shelf .vertices (c .advance .last .shelf)) (g .R·RecallTable .table (c .advance .last .recall)))
-          (c .from-residual .result) (c .from-residual .ensures .0)
-          (λ e. (subst (λ (n : ℕ). n < length (lay (g .S·Symbol .before) (lists vs) goal)) (c .loop-n .inv .2) (t .0), t .1));
-      ready = λ h. c .advance .ensures .ready (c .loop-n .inv .1 h);
-      size = c .advance .ensures .size ∙ c .loop-n .inv .2;
+          let vs = g.B.Shelf.vertices c.args.shelf.now in
+          let goal = joint g.S.Symbol.before vs (number_of c.args.rule) c.args.pair in
+          let R = c.loop-n.invariant.3 ready vs goal (begins g.S.Symbol.before vs (number_of c.args.rule) _ c.args.work.now c.args.pair sound first second right) in
+          let t = c.in_err-state.ensures.turns (c.loop-n.invariant.1 ready) vs goal R in
+          at_err (λ r. Walked g.S.Symbol.before (g.B.Shelf.capacity c.args.shelf.now) vs goal r (g.B.Shelf.vertices c.advance.new.shelf) (g.R.RecallTable.table c.advance.new.recall))
+          c.from_residual.result c.from_residual.ensures.0
+          (λ e. (subst (λ (n : ℕ). n < length (lay g.S.Symbol.before (lists vs) goal)) c.loop-n.invariant.2 t.0, t.1));
+      ready = λ h. c.advance.ensures.ready (c.loop-n.invariant.1 h);
+      size = c.advance.ensures.size ∙ c.loop-n.invariant.2;
     }
 
-pub loop-n-less : need.loop-n-less
-loop-n-less g c = c .in-Continue-state .ensures tt .falls .1
+pub loop-n-smaller : goal.loop-n-smaller
+loop-n-smaller g c = c.in_ok-state.ensures.falls.1
 
-pub loop-n-again : need.loop-n-again
-loop-n-again g c =
-    let t = c .in-Continue-state .ensures tt in (
-      t .falls .0,
-      λ h. c .advance .ensures .ready (c .loop-n .inv .1 h),
-      c .advance .ensures .size ∙ c .loop-n .inv .2,
-      λ ready old goal R. t .turns (c .loop-n .inv .1 ready) old goal (c .loop-n .inv .3 ready old goal R),
+pub loop-n-preserved : goal.loop-n-preserved
+loop-n-preserved g c =
+    let t = c.in_ok-state.ensures in (
+      t.falls.0,
+      λ h. c.advance.ensures.ready (c.loop-n.invariant.1 h),
+      c.advance.ensures.size ∙ c.loop-n.invariant.2,
+      λ ready old goal R. t.turns (c.loop-n.invariant.1 ready) old goal (c.loop-n.invariant.3 ready old goal R),
     )

@@ -1,26 +1,23 @@
-use Prim.Native.Nat.{min}
-use lib.ListN.{take}
-use mathlib.Core.Path.{_≡_, refl, ap, _∙_}
-use native.Mathlib.Omega.{arith}
-use Rattle·bucket_shelf·specs.Chains.{vertices-in, room}
-use Rattle·bucket_shelf·specs.Shelves.{records-of, heads-of}
-use Rattle·bucket_shelf·proofs.Rooms.{room-same, take-min}
-use Rattle·bucket_shelf·proofs.BucketShelf.keep_first.Needs as need
+use Rattle.std.proofs.Common.{◌≡◌, min, take, refl, ap, ◌∙◌, arith}
+use Rattle.bucket_shelf.specs.Chains.{vertices_in, room}
+use Rattle.bucket_shelf.specs.Shelves.{records_of, heads_of}
+use Rattle.bucket_shelf.proofs.Rooms.{room_same, take_min}
+use Rattle.bucket_shelf.proofs.BucketShelf.keep_first.Goals as goal
 
-pub returns : need.returns
+pub returns : goal.returns
 returns g c =
-    let s = c .args .self .now in
-    let es = records-of s in
-    let hs = heads-of s in
-    let hs′ = c .cut .last .heads .at .now in
-    let n = c .args .n in
-    let kept = c .min-self .result in
-    let size : room es hs′ ≡ room es hs = room-same es es hs hs′ refl (c .cut .ensures .wide) in
-    let used : c .in-use-used .result ≡ min (s .used) (room es hs) = c .in-use-used .ensures .value in
-    let is : min kept (room es hs′) ≡ min (c .in-use-used .result) n = omega arith in
+    let s = c.args.self.now in
+    let es = records_of s in
+    let hs = heads_of s in
+    let hs' = c.cut.new.heads.at.now in
+    let n = c.args.n in
+    let kept = c.min-self.result in
+    let size : room es hs' ≡ room es hs = room_same es es hs hs' refl c.cut.ensures.wide in
+    let used : c.in_use-used.result ≡ min s.used (room es hs) = c.in_use-used.ensures.value in
+    let is : min kept (room es hs') ≡ min c.in_use-used.result n = omega arith in
     record {
-      vertices = ap (λ m. take m (vertices-in es)) (is ∙ ap (λ m. min m n) used) ∙ take-min (vertices-in es) (min (s .used) (room es hs)) n;
-      ready = λ h. rw is (c .cut .ensures .ready (rw used h));
-      anew = λ e. let none : min kept (room es hs′) ≡ 0 = omega arith in rw none (c .cut .ensures .anew e);
+      vertices = ap (λ m. take m (vertices_in es)) (is ∙ ap (λ m. min m n) used) ∙ take_min (vertices_in es) (min s.used (room es hs)) n;
+      ready = λ h. rw is (c.cut.ensures.ready (rw used h));
+      anew = λ e. let none : min kept (room es hs') ≡ 0 = omega arith in rw none (c.cut.ensures.anew e);
       size = size;
     }

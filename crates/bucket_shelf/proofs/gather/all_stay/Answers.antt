@@ -1,33 +1,30 @@
-use Prim.Native.Nat.{_+_}
-use lib.ListN.{length, take}
-use mathlib.Core.Path.{_≡_, refl}
-use native.Mathlib.Omega.{arith}
-use Rattle·std.proofs.shelf.Lists.{length-take}
-use Rattle·std.proofs.shelf.Tests.{both-ways, false≢true}
-use Rattle·memory.specs.Shelves.{marks-in}
-use Rattle·memory.proofs.Gathers.{stay-none, stay-more, stay-all}
-use Rattle·bucket_shelf·specs.Chains.{vertices-in}
-use Rattle·bucket_shelf·proofs.Indices.{look-index}
-use Rattle·bucket_shelf·proofs.gather.all_stay.Needs as need
+use Rattle.std.proofs.Common.{◌≡◌, ◌+◌, take, refl, arith}
+use Rattle.std.proofs.lemmas.List.{length-take}
+use Rattle.std.proofs.lemmas.Bool.{both_ways, false≢true}
+use Rattle.memory.specs.Shelves.{marks_in}
+use Rattle.memory.proofs.Gathers.{stay_none, stay_more, stay_all}
+use Rattle.bucket_shelf.specs.Chains.{vertices_in}
+use Rattle.bucket_shelf.proofs.Indices.{look_index}
+use Rattle.bucket_shelf.proofs.gather.all_stay.Goals as goal
 
-pub loop-i-holds : need.loop-i-holds
-loop-i-holds g c = stay-none (marks-in (c .args .marks .now)) (take (c .args .used) (vertices-in (c .args .records .now)))
+pub loop-i-init : goal.loop-i-init
+loop-i-init g c = stay_none (marks_in c.args.marks.now) (take c.args.used (vertices_in c.args.records.now))
 
-pub returns-then-not-vertex-stays : need.returns-then-not-vertex-stays
-returns-then-not-vertex-stays g c =
-    let e = c .entry-at-entry .result in
-    let there = look-index (c .args .records .now) (c .args .used) (c .loop-i .i) e (c .pre .0) (omega arith) (c .entry-at-entry .ensures) in
-    (λ no. absurd (false≢true no), λ all. absurd (both-ways (c .vertex-stays .result) (c .if-not-vertex-stays .taken) (c .vertex-stays .ensures .1 (all (c .loop-i .i + 2) (e .vertex) there))))
+pub returns-then-not-vertex_stays : goal.returns-then-not-vertex_stays
+returns-then-not-vertex_stays g c =
+    let e = c.entry_at-entry.result in
+    let there = look_index c.args.records.now c.args.used c.loop-i.i e c.requires.0 (omega arith) c.entry_at-entry.ensures in
+    (λ no. absurd (false≢true no), λ all. absurd (both_ways c.vertex_stays.result c.if-not-vertex_stays.true (c.vertex_stays.ensures.1 (all (c.loop-i.i + 2) e.vertex there))))
 
-pub loop-i-again : need.loop-i-again
-loop-i-again g c =
-    let e = c .entry-at-entry .result in
-    let there = look-index (c .args .records .now) (c .args .used) (c .loop-i .i) e (c .pre .0) (omega arith) (c .entry-at-entry .ensures) in
-    let next : c .loop-i .i + 1 + 2 ≡ c .loop-i .i + 2 + 1 = omega arith in
+pub loop-i-preserved : goal.loop-i-preserved
+loop-i-preserved g c =
+    let e = c.entry_at-entry.result in
+    let there = look_index c.args.records.now c.args.used c.loop-i.i e c.requires.0 (omega arith) c.entry_at-entry.ensures in
+    let next : c.loop-i.i + 1 + 2 ≡ c.loop-i.i + 2 + 1 = omega arith in
     rw next
-    (stay-more (marks-in (c .args .marks .now)) (take (c .args .used) (vertices-in (c .args .records .now))) (c .loop-i .i + 2) (e .vertex) there (c .vertex-stays .ensures .0 (c .if-not-vertex-stays .left)) (c .loop-i .inv))
+    (stay_more (marks_in c.args.marks.now) (take c.args.used (vertices_in c.args.records.now)) (c.loop-i.i + 2) e.vertex there (c.vertex_stays.ensures.0 c.if-not-vertex_stays.false) c.loop-i.invariant)
 
-pub returns : need.returns
+pub returns : goal.returns
 returns g c =
-    let vs = take (c .args .used) (vertices-in (c .args .records .now)) in
-    (λ yes. stay-all (marks-in (c .args .marks .now)) vs (c .loop-i .i + 2) (omega (arith, length-take (c .args .used) (vertices-in (c .args .records .now)))) (c .loop-i .inv), λ all. refl)
+    let vs = take c.args.used (vertices_in c.args.records.now) in
+    (λ yes. stay_all (marks_in c.args.marks.now) vs (c.loop-i.i + 2) (omega (arith, length-take c.args.used (vertices_in c.args.records.now))) c.loop-i.invariant, λ all. refl)

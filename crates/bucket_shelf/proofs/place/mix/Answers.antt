@@ -1,7 +1,7 @@
-use mathlib.Core.Path.{refl}
-use Rattle·bucket_shelf·specs.Place.{mixed}
-use Rattle·bucket_shelf·proofs.place.mix.Needs as need
+use Rattle.std.proofs.Common.{refl}
+use Rattle.bucket_shelf.specs.Place.{mixed}
+use Rattle.bucket_shelf.proofs.place.mix.Goals as goal
 
-pub returns : need.returns
+pub returns : goal.returns
 unfolding mixed
 returns c = refl

@@ -1,21 +1,18 @@
-use lib.ListN.{length}
-use mathlib.Core.Path.{_≡_, _∙_}
-use native.Mathlib.Omega.{arith}
-use Prim.Native.Nat.{_-_}
-use Rattle·std.proofs.shelf.Lists.{length-take-le}
-use Rattle·std.proofs.shelf.Parts.{drop-append-drop}
-use Rattle·clearing·proofs.clearing.clear.Needs as need
+use Rattle.std.proofs.Common.{◌≡◌, ◌-◌, length, ◌∙◌, arith}
+use Rattle.std.proofs.lemmas.List.{length-take-le}
+use Rattle.std.proofs.lemmas.Slice.{drop-append-drop}
+use Rattle.clearing.proofs.clearing.clear.Goals as goal
 
-pub returns : need.returns
+pub returns : goal.returns
 returns g c =
-    let vs = g .B·Shelf .vertices (c .args .shelf .now) in
-    let all : c .used-used .result - 0 ≡ length vs = omega (arith, c .used-used .ensures) in
-    let long = length-take-le (c .used-used .result - 0) (c .args .work .now) (omega (arith, c .used-used .ensures, c .pre)) in
+    let vs = g.B.Shelf.vertices c.args.shelf.now in
+    let all : c.used-used.result - 0 ≡ length vs = omega (arith, c.used-used.ensures) in
+    let long = length-take-le (c.used-used.result - 0) c.args.work.now (omega (arith, c.used-used.ensures, c.requires)) in
     record {
-      answer = λ sound good. c .keep-reached .ensures .answer (sound .formed) (long ∙ all) good;
-      ready = c .keep-reached .ensures .ready;
-      size = c .keep-reached .ensures .size;
+      answer = λ sound good. c.keep_reached.ensures.answer sound.formed (long ∙ all) good;
+      ready = c.keep_reached.ensures.ready;
+      size = c.keep_reached.ensures.size;
       kept =
-          drop-append-drop (c .used-used .result - 0) (c .args .work .now) (c .keep-reached .last .marks) (length vs) (omega (arith, c .used-used .ensures))
-          (c .keep-reached .kept .marks ∙ long);
+          drop-append-drop (c.used-used.result - 0) c.args.work.now c.keep_reached.new.marks (length vs) (omega (arith, c.used-used.ensures))
+          (c.keep_reached.auto.marks ∙ long);
     }

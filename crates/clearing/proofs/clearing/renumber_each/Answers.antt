@@ -1,21 +1,19 @@
-use lib.ListN.{getD}
-use mathlib.Core.Path.{refl, _∙_}
-use native.Mathlib.Omega.{arith}
-use Rattle·std.proofs.shelf.Edits.{map-over-more}
-use Rattle·std.proofs.shelf.Lists.{getD-default}
-use Rattle·memory.specs.Marks.{noted}
-use Rattle·clearing·proofs.Numbers.{map-over-all}
-use Rattle·clearing·proofs.clearing.renumber_each.Needs as need
+use Rattle.std.proofs.Common.{get_or, refl, ◌∙◌, arith}
+use Rattle.std.proofs.lemmas.List.Edits.{map_over_more}
+use Rattle.std.proofs.lemmas.List.{get_or_default}
+use Rattle.memory.specs.Marks.{noted}
+use Rattle.clearing.proofs.Numbers.{map_over_all}
+use Rattle.clearing.proofs.clearing.renumber_each.Goals as goal
 
-pub loop-i-holds : need.loop-i-holds
-loop-i-holds c = refl
+pub loop-i-init : goal.loop-i-init
+loop-i-init c = refl
 
-pub loop-i-again : need.loop-i-again
-loop-i-again c =
-    let x = getD (c .loop-i .lists) (c .loop-i .i) 0 in
-    c .renumber-at .ensures ∙
-    map-over-more (noted (c .args .marks .now)) (c .args .lists .now) (c .loop-i .lists) (c .loop-i .i) x (c .loop-i-test .taken) (c .loop-i .inv)
-    (getD-default (c .loop-i .lists) (c .loop-i .i) 0 x (omega (arith, c .loop-i-test .taken, c .loop-i .kept .lists)))
+pub loop-i-preserved : goal.loop-i-preserved
+loop-i-preserved c =
+    let x = get_or c.loop-i.lists c.loop-i.i 0 in
+    c.renumber_at.ensures ∙
+    map_over_more (noted c.args.marks.now) c.args.lists.now c.loop-i.lists c.loop-i.i x c.loop-i-test.true c.loop-i.invariant
+    (get_or_default c.loop-i.lists c.loop-i.i 0 x (omega (arith, c.loop-i-test.true, c.loop-i.auto.lists)))
 
-pub returns : need.returns
-returns c = c .loop-i .inv ∙ map-over-all (noted (c .args .marks .now)) (c .args .lists .now) (c .loop-i .i) (c .loop-i-test .left)
+pub returns : goal.returns
+returns c = c.loop-i.invariant ∙ map_over_all (noted c.args.marks.now) c.args.lists.now c.loop-i.i c.loop-i-test.false

@@ -1,15 +1,15 @@
-use mathlib.Core.Path.{refl, sym, _∙_}
-use Rattle·memory.specs.Shelves.{marks-in}
-use Rattle·clearing·proofs.Marks.{each-more, each-all}
-use Rattle·clearing·proofs.marking.mark_each.Needs as need
+use Rattle.std.proofs.Common.{sym, refl, ◌∙◌}
+use Rattle.memory.specs.Shelves.{marks_in}
+use Rattle.clearing.proofs.Marks.{each_more, each_all}
+use Rattle.clearing.proofs.marking.mark_each.Goals as goal
 
-pub loop-list-holds : need.loop-list-holds
-loop-list-holds c = refl
+pub loop-list-init : goal.loop-list-init
+loop-list-init c = refl
 
-pub loop-list-again : need.loop-list-again
-loop-list-again c =
-    each-more (c .args .lists .now) (marks-in (c .loop-list .marks)) (marks-in (c .mark .last .marks)) (c .loop-list .list-index) (c .loop-list-test .taken) (c .mark .ensures) ∙
-    c .loop-list .inv
+pub loop-list-preserved : goal.loop-list-preserved
+loop-list-preserved c =
+    each_more c.args.lists.now (marks_in c.loop-list.marks) (marks_in c.mark.new.marks) c.loop-list.list-index c.loop-list-test.true c.mark.ensures ∙
+    c.loop-list.invariant
 
-pub returns : need.returns
-returns c = sym (each-all (c .args .lists .now) (marks-in (c .loop-list .marks)) (c .loop-list .list-index) (c .loop-list-test .left)) ∙ c .loop-list .inv
+pub returns : goal.returns
+returns c = sym (each_all c.args.lists.now (marks_in c.loop-list.marks) c.loop-list.list-index c.loop-list-test.false) ∙ c.loop-list.invariant

@@ -1,21 +1,19 @@
-use mathlib.Core.Logic.{inl}
-use mathlib.Core.Path.{_≡_, ap, ap₂, _∙_}
-use Prim.Native.Nat.{ℕ}
-use Rattle·memory.specs.Shelves.{marks-in}
-use Rattle·memory.proofs.Looks.{looked}
-use Rattle·clearing·specs.Spreading.{with-mark}
-use Rattle·clearing·proofs.marking.visit.Needs as need
+use Rattle.std.proofs.Common.{◌≡◌, ℕ, ap, ◌∙◌, ap₂, inl}
+use Rattle.memory.specs.Shelves.{marks_in}
+use Rattle.memory.proofs.Looks.{looked}
+use Rattle.clearing.specs.Spreading.{with_mark}
+use Rattle.clearing.proofs.marking.visit.Goals as goal
 
-pub returns : need.returns
+pub returns : goal.returns
 returns g c = λ formed.
-    let l = looked (g .B·Shelf .vertices (c .args .shelf .now)) (c .args .n) _ (c .in-Some .ensures tt .value formed) in
-    let zero-is : c .in-Some .zero ≡ l .0 .zero = ap (λ (t : g .S .Denot × ℕ × ℕ). t .1) (l .2) in
-    let one-is : c .in-Some .one ≡ l .0 .one = ap (λ (t : g .S .Denot × ℕ × ℕ). t .2) (l .2) in
+    let l = looked (g.B.Shelf.vertices c.args.shelf.now) c.args.n _ (c.in-Some.ensures.value formed) in
+    let zero_is : c.in-Some.zero ≡ l.0.zero = ap (λ (t : g.row.S.Denot × ℕ × ℕ). t.1) l.2 in
+    let one_is : c.in-Some.one ≡ l.0.one = ap (λ (t : g.row.S.Denot × ℕ × ℕ). t.2) l.2 in
     inl (
-      c .is-marked .ensures .0 (c .if-not-is-marked .left),
+      c.is_marked.ensures.0 c.if-not-is_marked.false,
       (
-        l .0,
-        l .1,
-        c .mark-both .ensures ∙ ap₂ (λ z o. with-mark (with-mark (marks-in (c .args .marks .now)) z) o) zero-is one-is,
+        l.0,
+        l.1,
+        c.mark_both.ensures ∙ ap₂ (λ z o. with_mark (with_mark (marks_in c.args.marks.now) z) o) zero_is one_is,
       ),
     )

@@ -1,10 +1,10 @@
-use mathlib.Core.Path.{subst}
-use Rattle·commands·specs.Answers.{ended}
-use Rattle·commands·specs.Outputs.{Puts}
-use Rattle·commands·proofs.Spelling.{refused-front}
-use Rattle·commands·proofs.answer.write_refused.Needs as need
+use Rattle.std.proofs.Common.{subst}
+use Rattle.commands.specs.Answers.{ended}
+use Rattle.commands.specs.Outputs.{Puts}
+use Rattle.commands.proofs.Spelling.{refused_front}
+use Rattle.commands.proofs.answer.write_refused.Goals as goal
 
-pub returns : need.returns
+pub returns : goal.returns
 returns c =
-    let front = refused-front (c .args .number) _ _ _ _ _ _ (c .copy-from-slice .ensures .after) (c .from .ensures) (c .write-decimal-count .ensures .value) (c .write-decimal-count .ensures .after) in
-    subst (λ s. Puts (ended s) (c .args .out .now) (c .write-line .last .out) (c .write-line .result)) front (c .write-line .ensures)
+    let front = refused_front c.args.number _ _ _ _ _ _ c.copy_from_slice.ensures.after c.from.ensures c.write_decimal-count.ensures.value c.write_decimal-count.ensures.after in
+    subst (λ s. Puts (ended s) c.args.out.now c.write_line.new.out c.write_line.result) front c.write_line.ensures

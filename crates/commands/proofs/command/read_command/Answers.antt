@@ -1,8 +1,8 @@
-use Rattle·commands·specs.Grammar.{Says}
-use Rattle·commands·proofs.Lines.{line-says, none-says}
-use Rattle·commands·proofs.command.read_command.Needs as need
+use Rattle.commands.specs.Grammar.{Says}
+use Rattle.commands.proofs.Lines.{line_says, none_says}
+use Rattle.commands.proofs.command.read_command.Goals as goal
 
-pub returns : need.returns
+pub returns : goal.returns
 returns c =
-    let says = line-says (c .args .line .now) _ (c .if-line-gt-MAX-LINE .left) (c .read-line .ensures) in
-    record { answer = says; refused = none-says (Says (c .args .line .now)) _ says }
+    let says = line_says c.args.line.now _ c.if-line-gt-MAX_LINE.false c.read_line.ensures in
+    record { answer = says; refused = none_says (Says c.args.line.now) _ says }

@@ -1,8 +1,9 @@
-use borrow.Author.Needs.{needs}
-use Rattle·std.proofs.shelf.Equals.{matches-decides, sameBytes-decides}
-use Rattle·commands·proofs.fields.is_word.Needs as need
+use Rattle.std.proofs.Common.{rules}
+use Rattle.std.proofs.lemmas.Slice.Eq.{slice_eq-Decides}
+use Rattle.commands.proofs.fields.is_word.Goals as goal
+use Rattle.std.proofs.lemmas.Bool.Decides.{Decides-eqb}
 
-pub returns : need.returns
+pub returns : goal.returns
 returns c =
-    let d = matches-decides _ _ _ (c .eq .ensures) in
-    record { value = search (needs, sameBytes-decides); same = d }
+    let d = slice_eq-Decides Decides-eqb _ _ _ c.eq.ensures in
+    record { value = search rules; same = d }

@@ -1,18 +1,18 @@
-use mathlib.Core.Path.{sym, _∙_}
-use Rattle·commands·proofs.Texts.{number-plain, number-more, number-stops, number-end}
-use Rattle·commands·proofs.fields.read_u64.Needs as need
+use Rattle.std.proofs.Common.{sym, ◌∙◌}
+use Rattle.commands.proofs.Texts.{number_plain, number_more, number_stops, number_end}
+use Rattle.commands.proofs.fields.read_u64.Goals as goal
 
-pub returns-in-Break-n : need.returns-in-Break-n
-returns-in-Break-n c =
-    let stops = number-stops _ _ _ (c .loop-b-test .taken) (c .in-Break-n .ensures tt) in
-    let starts = number-plain (c .args .digits .now) (sym (c .is-plain .ensures) ∙ c .if-not-is-plain .left) in
-    c .from-residual .ensures ∙ sym (starts ∙ c .loop-b .inv ∙ stops)
+pub returns-in_err-n : goal.returns-in_err-n
+returns-in_err-n c =
+    let stops = number_stops _ _ _ c.loop-b-test.true c.in_err-n.ensures in
+    let starts = number_plain c.args.digits.now (sym c.is_plain.ensures ∙ c.if-not-is_plain.false) in
+    c.from_residual.ensures ∙ sym (starts ∙ c.loop-b.invariant ∙ stops)
 
-pub loop-b-again : need.loop-b-again
-loop-b-again c = c .loop-b .inv ∙ number-more _ _ _ _ (c .loop-b-test .taken) (c .in-Continue-n .ensures tt)
+pub loop-b-preserved : goal.loop-b-preserved
+loop-b-preserved c = c.loop-b.invariant ∙ number_more _ _ _ _ c.loop-b-test.true c.in_ok-n.ensures
 
-pub returns : need.returns
+pub returns : goal.returns
 returns c =
-    let ends = number-end _ _ _ (c .loop-b-test .left) in
-    let starts = number-plain (c .args .digits .now) (sym (c .is-plain .ensures) ∙ c .if-not-is-plain .left) in
-    sym (starts ∙ c .loop-b .inv ∙ ends)
+    let ends = number_end _ _ _ c.loop-b-test.false in
+    let starts = number_plain c.args.digits.now (sym c.is_plain.ensures ∙ c.if-not-is_plain.false) in
+    sym (starts ∙ c.loop-b.invariant ∙ ends)

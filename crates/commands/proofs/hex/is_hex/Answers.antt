@@ -1,14 +1,14 @@
-use mathlib.Core.Path.{sym, _∙_}
-use Rattle·commands·proofs.Hexes.{text-stops, text-more, text-ends}
-use Rattle·commands·proofs.hex.is_hex.Needs as need
+use Rattle.std.proofs.Common.{sym, ◌∙◌}
+use Rattle.commands.proofs.Hexes.{text_stops, text_more, text_ends}
+use Rattle.commands.proofs.hex.is_hex.Goals as goal
 
-pub returns-then-not-is-digit : need.returns-then-not-is-digit
-returns-then-not-is-digit c =
-    sym (text-stops (c .args .text .now) (c .loop-b .b-index) (c .loop-b-test .taken) (c .loop-b .inv) (sym (c .is-digit .ensures) ∙ c .if-not-is-digit .taken))
+pub returns-then-not-is_digit : goal.returns-then-not-is_digit
+returns-then-not-is_digit c =
+    sym (text_stops c.args.text.now c.loop-b.b-index c.loop-b-test.true c.loop-b.invariant (sym c.is_digit.ensures ∙ c.if-not-is_digit.true))
 
-pub loop-b-again : need.loop-b-again
-loop-b-again c =
-    text-more (c .args .text .now) (c .loop-b .b-index) (c .loop-b-test .taken) (c .loop-b .inv) (sym (c .is-digit .ensures) ∙ c .if-not-is-digit .left)
+pub loop-b-preserved : goal.loop-b-preserved
+loop-b-preserved c =
+    text_more c.args.text.now c.loop-b.b-index c.loop-b-test.true c.loop-b.invariant (sym c.is_digit.ensures ∙ c.if-not-is_digit.false)
 
-pub returns : need.returns
-returns c = sym (text-ends (c .args .text .now) (c .loop-b .b-index) (c .loop-b-test .left) (c .loop-b .inv))
+pub returns : goal.returns
+returns c = sym (text_ends c.args.text.now c.loop-b.b-index c.loop-b-test.false c.loop-b.invariant)

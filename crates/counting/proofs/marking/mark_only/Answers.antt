@@ -1,10 +1,10 @@
 use mathlib.Core.Path.{subst⁻¹}
-use native.Mathlib.Omega.{arith}
-use Rattle·counting·specs.Marks.{OnlyMarked}
-use Rattle·counting·proofs.Reaching.{only-marked}
-use Rattle·counting·proofs.marking.mark_only.Needs as need
+use Rattle.std.proofs.Common.{arith}
+use Rattle.counting.specs.Marks.{OnlyMarked}
+use Rattle.counting.proofs.Reaching.{only_marked}
+use Rattle.counting.proofs.marking.mark_only.Goals as goal
 
-pub returns : need.returns
+pub returns : goal.returns
 returns c =
-    subst⁻¹ (OnlyMarked (c .args .list)) (c .mark .ensures)
-    (only-marked (c .unmark-up-to .last .work) (c .args .list) (omega arith) (c .unmark-up-to .ensures))
+    subst⁻¹ (OnlyMarked c.args.list) c.mark.ensures
+    (only_marked c.unmark_up_to.new.work c.args.list (omega arith) c.unmark_up_to.ensures)

@@ -1,51 +1,51 @@
-use native.Mathlib.Omega.{arith}
-use Rattle·memory.proofs.Looks.{unlooked}
-use Rattle·counting·proofs.Turns.{turn-terminal, turn-empty, turn-takes, turn-passes}
-use Rattle·counting·proofs.picking.turn_at.Needs as need
+use Rattle.std.proofs.Common.{arith}
+use Rattle.memory.proofs.Looks.{unlooked}
+use Rattle.counting.proofs.Turns.{turn_terminal, turn_empty, turn_takes, turn_passes}
+use Rattle.counting.proofs.picking.turn_at.Goals as goal
 
-pub add-result : need.add-result
-add-result g c = let sub = c .in-Some-checked-sub .ensures tt in let small = c .in-Some-left-of .ensures tt .small in omega arith
+pub overflow_add-result : goal.overflow_add-result
+overflow_add-result g c = let sub = c.in-Some-checked_sub.ensures in let small = c.in-Some-left_of.ensures.small in omega arith
 
-pub returns-in-rest : need.returns-in-rest
-returns-in-rest g c =
+pub returns-in_default : goal.returns-in_default
+returns-in_default g c =
     record {
       below = tt;
       value = λ sound tallied stands.
-          turn-terminal (g .S·Symbol .before) (g .S·Symbol·met .ordered) (g .B·Shelf .vertices (c .args .shelf .now)) (sound .formed) (c .args .spot) stands
-          (unlooked (g .B·Shelf .vertices (c .args .shelf .now)) (c .args .spot .list) (c .in-rest .ensures tt .value (sound .formed)));
+          turn_terminal g.S.Symbol.before g.met.S.Symbol.ordered (g.B.Shelf.vertices c.args.shelf.now) sound.formed c.args.spot stands
+          (unlooked (g.B.Shelf.vertices c.args.shelf.now) c.args.spot.list (c.in_default.ensures.value sound.formed));
     }
 
-pub returns-in-rest-checked-sub : need.returns-in-rest-checked-sub
-returns-in-rest-checked-sub g c =
+pub returns-in_default-checked_sub : goal.returns-in_default-checked_sub
+returns-in_default-checked_sub g c =
     record {
       below = tt;
       value = λ sound tallied stands.
-          let few = c .in-rest-checked-sub .ensures tt in
-          turn-empty (g .S·Symbol .before) (g .S·Symbol·met .ordered) (g .B·Shelf .vertices (c .args .shelf .now)) (sound .formed) (c .args .spot) stands
-          (c .args .work .now) tallied (c .tally-at .result) (c .tally-at .ensures) (c .from-empty .result) (c .from-empty .ensures)
+          let few = c.in_default-checked_sub.ensures in
+          turn_empty g.S.Symbol.before g.met.S.Symbol.ordered (g.B.Shelf.vertices c.args.shelf.now) sound.formed c.args.spot stands
+          c.args.work.now tallied c.tally_at.result c.tally_at.ensures c.from-empty.result c.from-empty.ensures
           (omega arith);
     }
 
-pub returns-in-rest-left-of : need.returns-in-rest-left-of
-returns-in-rest-left-of g c =
+pub returns-in_default-left_of : goal.returns-in_default-left_of
+returns-in_default-left_of g c =
     record {
-      below = c .in-Some .ensures tt .below .2;
+      below = c.in-Some.ensures.below.2;
       value = λ sound tallied stands.
-          let sub = c .in-Some-checked-sub .ensures tt in
-          turn-takes (g .S·Symbol .before) (g .S·Symbol·met .ordered) (g .B·Shelf .vertices (c .args .shelf .now)) (sound .formed) (c .args .spot) stands
-          (c .args .work .now) tallied (c .tally-at .result) (c .tally-at .ensures) (c .from-empty .result) (c .from-empty .ensures)
-          _ (c .in-Some .ensures tt .value (sound .formed)) (c .in-Some-checked-sub .later) (omega arith)
-          (c .tally-at-2 .result) (c .tally-at-2 .ensures) (c .in-rest-left-of .ensures tt .value);
+          let sub = c.in-Some-checked_sub.ensures in
+          turn_takes g.S.Symbol.before g.met.S.Symbol.ordered (g.B.Shelf.vertices c.args.shelf.now) sound.formed c.args.spot stands
+          c.args.work.now tallied c.tally_at.result c.tally_at.ensures c.from-empty.result c.from-empty.ensures
+          _ (c.in-Some.ensures.value sound.formed) c.in-Some-checked_sub.later (omega arith)
+          c.tally_at-2.result c.tally_at-2.ensures c.in_default-left_of.ensures.value;
     }
 
-pub returns : need.returns
+pub returns : goal.returns
 returns g c =
     record {
-      below = c .in-Some .ensures tt .below .1;
+      below = c.in-Some.ensures.below.1;
       value = λ sound tallied stands.
-          let sub = c .in-Some-checked-sub .ensures tt in
-          turn-passes (g .S·Symbol .before) (g .S·Symbol·met .ordered) (g .B·Shelf .vertices (c .args .shelf .now)) (sound .formed) (c .args .spot) stands
-          (c .args .work .now) tallied (c .tally-at .result) (c .tally-at .ensures) (c .from-empty .result) (c .from-empty .ensures)
-          _ (c .in-Some .ensures tt .value (sound .formed)) (c .in-Some-checked-sub .later) (omega arith)
-          (c .tally-at-2 .result) (c .tally-at-2 .ensures) (c .in-Some-left-of .left) (c .in-Some-left-of .ensures tt .value);
+          let sub = c.in-Some-checked_sub.ensures in
+          turn_passes g.S.Symbol.before g.met.S.Symbol.ordered (g.B.Shelf.vertices c.args.shelf.now) sound.formed c.args.spot stands
+          c.args.work.now tallied c.tally_at.result c.tally_at.ensures c.from-empty.result c.from-empty.ensures
+          _ (c.in-Some.ensures.value sound.formed) c.in-Some-checked_sub.later (omega arith)
+          c.tally_at-2.result c.tally_at-2.ensures c.in-Some-left_of.left c.in-Some-left_of.ensures.value;
     }

@@ -1,22 +1,22 @@
 use mathlib.Core.Path.{subst⁻¹}
-use native.Mathlib.Omega.{arith}
-use Rattle·ledger.specs.Ledger.{codes}
-use Rattle·memory.proofs.Looks.{unlooked}
-use Rattle·counting·specs.Tallies.{Tells}
-use Rattle·counting·proofs.Sizes.{read-codes, tells-terminal, tells-begun}
-use Rattle·counting·proofs.tallying.tally_of.Needs as need
+use Rattle.std.proofs.Common.{arith}
+use Rattle.ledger.specs.Ledger.{codes}
+use Rattle.memory.proofs.Looks.{unlooked}
+use Rattle.counting.specs.Tallies.{Tells}
+use Rattle.counting.proofs.Sizes.{read_codes, tells_terminal, tells_begun}
+use Rattle.counting.proofs.tallying.tally_of.Goals as goal
 
-pub returns-in-rest : need.returns-in-rest
-returns-in-rest g c = λ sound good tallied.
-    tells-terminal (g .B·Shelf .vertices (c .args .shelf .now)) (c .args .n) good
-    (unlooked (g .B·Shelf .vertices (c .args .shelf .now)) (c .args .n) (c .in-rest .ensures tt .value (sound .formed)))
+pub returns-in_default : goal.returns-in_default
+returns-in_default g c = λ sound good tallied.
+    tells_terminal (g.B.Shelf.vertices c.args.shelf.now) c.args.n good
+    (unlooked (g.B.Shelf.vertices c.args.shelf.now) c.args.n (c.in_default.ensures.value sound.formed))
 
-pub returns : need.returns
+pub returns : goal.returns
 returns g c = λ sound good tallied.
-    let below = c .in-Some .ensures tt .below in
-    tells-begun (codes (g .B·Shelf .vertices (c .args .shelf .now)) (c .args .n)) _ (codes (g .B·Shelf .vertices (c .args .shelf .now)) (c .in-Some .zero)) (codes (g .B·Shelf .vertices (c .args .shelf .now)) (c .in-Some .one))
-    (read-codes (g .S·Symbol .before) (g .S·Symbol·met .ordered) (g .B·Shelf .vertices (c .args .shelf .now)) (sound .formed) (c .args .n) _ (c .in-Some .ensures tt .value (sound .formed)))
-    (c .tally-at-outer .result) (c .tally-at-inner .result)
-    (subst⁻¹ (Tells (codes (g .B·Shelf .vertices (c .args .shelf .now)) (c .in-Some .zero))) (c .tally-at-outer .ensures) (tallied (c .in-Some .zero) (omega arith)))
-    (subst⁻¹ (Tells (codes (g .B·Shelf .vertices (c .args .shelf .now)) (c .in-Some .one))) (c .tally-at-inner .ensures) (tallied (c .in-Some .one) (omega arith)))
-    (c .total .result) (c .total .ensures)
+    let below = c.in-Some.ensures.below in
+    tells_begun (codes (g.B.Shelf.vertices c.args.shelf.now) c.args.n) _ (codes (g.B.Shelf.vertices c.args.shelf.now) c.in-Some.zero) (codes (g.B.Shelf.vertices c.args.shelf.now) c.in-Some.one)
+    (read_codes g.S.Symbol.before g.met.S.Symbol.ordered (g.B.Shelf.vertices c.args.shelf.now) sound.formed c.args.n _ (c.in-Some.ensures.value sound.formed))
+    c.tally_at-outer.result c.tally_at-inner.result
+    (subst⁻¹ (Tells (codes (g.B.Shelf.vertices c.args.shelf.now) c.in-Some.zero)) c.tally_at-outer.ensures (tallied c.in-Some.zero (omega arith)))
+    (subst⁻¹ (Tells (codes (g.B.Shelf.vertices c.args.shelf.now) c.in-Some.one)) c.tally_at-inner.ensures (tallied c.in-Some.one (omega arith)))
+    c.total.result c.total.ensures

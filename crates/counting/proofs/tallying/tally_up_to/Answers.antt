@@ -1,13 +1,13 @@
-use native.Mathlib.Omega.{arith}
-use Rattle·counting·proofs.Sizes.{tallied-more}
-use Rattle·counting·proofs.tallying.tally_up_to.Needs as need
+use Rattle.std.proofs.Common.{arith}
+use Rattle.counting.proofs.Sizes.{tallied_more}
+use Rattle.counting.proofs.tallying.tally_up_to.Goals as goal
 
-pub loop-n-again : need.loop-n-again
-loop-n-again g c = λ sound good.
-    tallied-more (g .B·Shelf .vertices (c .args .shelf .now)) (c .loop-n .n) (c .loop-n .work) (c .place-of .result) (c .tally-of .result) (omega arith)
-    (c .loop-n .inv sound good) (c .place-of .ensures) (c .tally-of .ensures sound (omega arith) (c .loop-n .inv sound good))
+pub loop-n-preserved : goal.loop-n-preserved
+loop-n-preserved g c = λ sound good.
+    tallied_more (g.B.Shelf.vertices c.args.shelf.now) c.loop-n.n c.loop-n.work c.place_of.result c.tally_of.result (omega arith)
+    (c.loop-n.invariant sound good) c.place_of.ensures (c.tally_of.ensures sound (omega arith) (c.loop-n.invariant sound good))
 
-pub returns·2 : need.returns·2
-returns·2 g c = λ sound good k h.
-    tallied-more (g .B·Shelf .vertices (c .args .shelf .now)) (c .loop-n .n) (c .loop-n .work) (c .place-of .result) (c .tally-of .result) (omega arith)
-    (c .loop-n .inv sound good) (c .place-of .ensures) (c .tally-of .ensures sound (omega arith) (c .loop-n .inv sound good)) k (omega arith)
+pub returns-2 : goal.returns-2
+returns-2 g c = λ sound good k h.
+    tallied_more (g.B.Shelf.vertices c.args.shelf.now) c.loop-n.n c.loop-n.work c.place_of.result c.tally_of.result (omega arith)
+    (c.loop-n.invariant sound good) c.place_of.ensures (c.tally_of.ensures sound (omega arith) (c.loop-n.invariant sound good)) k (omega arith)

@@ -1,14 +1,12 @@
-use mathlib.Core.Path.{ap, _∙_}
-use native.Mathlib.Omega.{arith}
-use lib.ListN.{length, take}
-use Rattle·commands.specs.Answers.{ended}
-use Rattle·commands.specs.Hexadecimals.{hexadecimal}
-use Rattle·desk·specs.declared.reply.Reply.the-variants.{Dispatch}
-use Rattle·desk·proofs.Answering.{put-line, first-part}
-use Rattle·desk·proofs.reply.write_dispatch.Needs as need
+use Rattle.std.proofs.Common.{length, take, ap, ◌∙◌, arith}
+use Rattle.commands.specs.Answers.{ended}
+use Rattle.commands.specs.Hexadecimals.{hexadecimal}
+use Rattle.desk.specs.declared.reply.Reply.TheVariants.{Dispatch}
+use Rattle.desk.proofs.Answering.{put_line, first_part}
+use Rattle.desk.proofs.reply.write_dispatch.Goals as goal
 
-pub returns : need.returns
+pub returns : goal.returns
 returns c =
-    let part = first-part (c .args .count) (c .min-held .result) (c .args .bytes .now) (c .min-held .ensures) in
-    let line = c .answer-of .ensures ∙ ap (λ bs. ended (hexadecimal bs)) part in
-    put-line (take (c .args .count) (c .args .bytes .now)) (Dispatch (c .args .count)) (length (c .args .bytes .now)) _ (c .args .out .now) (c .write-answer .last .out) (c .write-answer .result) line (omega arith) (c .write-answer .ensures .after)
+    let part = first_part c.args.count c.min-held.result c.args.bytes.now c.min-held.ensures in
+    let line = c.answer_of.ensures ∙ ap (λ bs. ended (hexadecimal bs)) part in
+    put_line (take c.args.count c.args.bytes.now) (Dispatch c.args.count) (length c.args.bytes.now) _ c.args.out.now c.write_answer.new.out c.write_answer.result line (omega arith) c.write_answer.ensures.after

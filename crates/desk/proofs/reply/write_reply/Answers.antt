@@ -1,14 +1,12 @@
 use mathlib.Core.Path.{subst⁻¹}
-use mathlib.Core.List.{[]}
-use native.Mathlib.Omega.{arith}
-use lib.ListN.{length}
-use Rattle·desk·specs.Replies.{Put}
-use Rattle·desk·proofs.Answering.{put-line, shows-nothing}
-use Rattle·desk·proofs.reply.write_reply.Needs as need
+use Rattle.std.proofs.Common.{[], length, arith}
+use Rattle.desk.specs.Replies.{Put}
+use Rattle.desk.proofs.Answering.{put_line, shows_nothing}
+use Rattle.desk.proofs.reply.write_reply.Goals as goal
 
-pub returns-in-rest : need.returns-in-rest
-returns-in-rest g c =
-    let nothing = shows-nothing (g .S·TextSymbol .text) (c .args .code .now) (c .args .bytes .now) (c .args .reply) (c .in-rest .not-Picked) (c .in-rest .not-Dispatch) in
-    let none = nothing .1 in
-    subst⁻¹ (λ part. Put part (c .args .reply) (length (c .args .bytes .now)) (c .args .out .now) (c .write-answer .result) (c .write-answer .last .out)) (nothing .0)
-    (put-line [] (c .args .reply) (length (c .args .bytes .now)) _ (c .args .out .now) (c .write-answer .last .out) (c .write-answer .result) (c .answer-of .ensures) (omega arith) (c .write-answer .ensures .after))
+pub returns-in_default : goal.returns-in_default
+returns-in_default g c =
+    let nothing = shows_nothing g.S.TextSymbol.text c.args.code.now c.args.bytes.now c.args.reply c.in_default.not-Picked c.in_default.not-Dispatch in
+    let none = nothing.1 in
+    subst⁻¹ (λ part. Put part c.args.reply (length c.args.bytes.now) c.args.out.now c.write_answer.result c.write_answer.new.out) nothing.0
+    (put_line [] c.args.reply (length c.args.bytes.now) _ c.args.out.now c.write_answer.new.out c.write_answer.result c.answer_of.ensures (omega arith) c.write_answer.ensures.after)

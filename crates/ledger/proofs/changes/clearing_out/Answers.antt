@@ -1,5 +1,5 @@
-use Rattle·ledger·proofs.Changing.{clearing-out}
-use Rattle·ledger·proofs.changes.clearing_out.Needs as need
+use Rattle.ledger.proofs.Changing.{clearing_out}
+use Rattle.ledger.proofs.changes.clearing_out.Goals as goal
 
-pub returns : need.returns
-returns g c = clearing-out (g .S·Symbol .before) (g .S·Symbol·met .ordered)
+pub returns : goal.returns
+returns g c = clearing_out g.S.Symbol.before g.met.S.Symbol.ordered

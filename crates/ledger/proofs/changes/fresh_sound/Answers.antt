@@ -1,5 +1,5 @@
-use Rattle·ledger·proofs.Gathering.{sound-empty}
-use Rattle·ledger·proofs.changes.fresh_sound.Needs as need
+use Rattle.ledger.proofs.Gathering.{sound_empty}
+use Rattle.ledger.proofs.changes.fresh_sound.Goals as goal
 
-pub returns : need.returns
-returns g c = sound-empty (g .S·Symbol .before) (g .S·Symbol·met .ordered)
+pub returns : goal.returns
+returns g c = sound_empty g.S.Symbol.before g.met.S.Symbol.ordered

@@ -1,5 +1,5 @@
-use Rattle·ledger·proofs.Attaining.{attained}
-use Rattle·ledger·proofs.diagrams.attained.Needs as need
+use Rattle.ledger.proofs.Attaining.{attained}
+use Rattle.ledger.proofs.diagrams.attained.Goals as goal
 
-pub returns : need.returns
-returns g c = attained (g .S·Symbol .before) (g .S·Symbol·met .ordered)
+pub returns : goal.returns
+returns g c = attained g.S.Symbol.before g.met.S.Symbol.ordered

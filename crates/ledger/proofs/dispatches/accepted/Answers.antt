@@ -1,5 +1,5 @@
-use Rattle·ledger·proofs.Forming.{accepted}
-use Rattle·ledger·proofs.dispatches.accepted.Needs as need
+use Rattle.ledger.proofs.Forming.{accepted}
+use Rattle.ledger.proofs.dispatches.accepted.Goals as goal
 
-pub returns : need.returns
-returns g c = accepted (g .S·Symbol .before) (g .S·Symbol·met .ordered)
+pub returns : goal.returns
+returns g c = accepted g.S.Symbol.before g.met.S.Symbol.ordered

@@ -1,5 +1,5 @@
-use Rattle·ledger·proofs.Attaining.{written}
-use Rattle·ledger·proofs.dispatches.read_back.Needs as need
+use Rattle.ledger.proofs.Attaining.{written}
+use Rattle.ledger.proofs.dispatches.read_back.Goals as goal
 
-pub returns : need.returns
-returns g c t proper = let l = written (g .S·Symbol .before) (g .S·Symbol·met .ordered) t proper in (l .sound, l .good, l .is)
+pub returns : goal.returns
+returns g c t proper = let l = written g.S.Symbol.before g.met.S.Symbol.ordered t proper in (l.sound, l.good, l.is)

@@ -1,7 +1,7 @@
-use Rattle·ledger·proofs.Bytes.{received}
-use Rattle·ledger·proofs.dispatches.received.Needs as need
+use Rattle.ledger.proofs.Bytes.{received}
+use Rattle.ledger.proofs.dispatches.received.Goals as goal
 
-pub returns : need.returns
+pub returns : goal.returns
 returns g c =
-    let kind = g .S·WireSymbol in
-    received (g .S·Symbol .before) (g .S·Symbol·met .ordered) (kind .kind) (kind .width) (kind .bytes) (kind .reads) (g .S·WireSymbol·met .wired)
+    let kind = g.S.WireSymbol in
+    received g.S.Symbol.before g.met.S.Symbol.ordered kind.kind kind.width kind.bytes kind.reads g.met.S.WireSymbol.wired

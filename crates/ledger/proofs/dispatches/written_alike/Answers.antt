@@ -1,7 +1,7 @@
-use Rattle·ledger·proofs.Bytes.{dispatches-alike}
-use Rattle·ledger·proofs.dispatches.written_alike.Needs as need
+use Rattle.ledger.proofs.Bytes.{dispatches_alike}
+use Rattle.ledger.proofs.dispatches.written_alike.Goals as goal
 
-pub returns : need.returns
+pub returns : goal.returns
 returns g c =
-    let kind = g .S·WireSymbol in
-    dispatches-alike (g .S·Symbol .before) (g .S·Symbol·met .ordered) (kind .kind) (kind .width) (kind .bytes) (kind .reads) (g .S·WireSymbol·met .wired)
+    let kind = g.S.WireSymbol in
+    dispatches_alike g.S.Symbol.before g.met.S.Symbol.ordered kind.kind kind.width kind.bytes kind.reads g.met.S.WireSymbol.wired

@@ -1,5 +1,5 @@
-use Rattle·ledger·proofs.Members.{are-sets}
-use Rattle·ledger·proofs.lists.are_sets.Needs as need
+use Rattle.ledger.proofs.Members.{are_sets}
+use Rattle.ledger.proofs.lists.are_sets.Goals as goal
 
-pub returns : need.returns
-returns g c = are-sets (g .S·Symbol .before) (g .S·Symbol·met .ordered)
+pub returns : goal.returns
+returns g c = are_sets g.S.Symbol.before g.met.S.Symbol.ordered

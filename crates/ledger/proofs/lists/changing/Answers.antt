@@ -1,5 +1,5 @@
-use Rattle·ledger·proofs.Members.{by-code}
-use Rattle·ledger·proofs.lists.changing.Needs as need
+use Rattle.ledger.proofs.Members.{by_code}
+use Rattle.ledger.proofs.lists.changing.Goals as goal
 
-pub returns : need.returns
-returns g c = by-code (g .S·Symbol .before) (g .S·Symbol·met .ordered)
+pub returns : goal.returns
+returns g c = by_code g.S.Symbol.before g.met.S.Symbol.ordered

@@ -1,5 +1,5 @@
-use Rattle·ledger·proofs.Members.{joins}
-use Rattle·ledger·proofs.lists.joining.Needs as need
+use Rattle.ledger.proofs.Members.{joins}
+use Rattle.ledger.proofs.lists.joining.Goals as goal
 
-pub returns : need.returns
-returns g c = joins (g .S·Symbol .before) (g .S·Symbol·met .ordered)
+pub returns : goal.returns
+returns g c = joins g.S.Symbol.before g.met.S.Symbol.ordered

@@ -1,5 +1,5 @@
-use Rattle·ledger·proofs.Picking.{ordering}
-use Rattle·ledger·proofs.lists.ordering.Needs as need
+use Rattle.ledger.proofs.Picking.{ordering}
+use Rattle.ledger.proofs.lists.ordering.Goals as goal
 
-pub returns : need.returns
-returns g c = ordering (g .S·Symbol .before) (g .S·Symbol·met .ordered)
+pub returns : goal.returns
+returns g c = ordering g.S.Symbol.before g.met.S.Symbol.ordered

@@ -1,5 +1,5 @@
-use Rattle·ledger·proofs.Members.{falls-apart}
-use Rattle·ledger·proofs.lists.taken_apart.Needs as need
+use Rattle.ledger.proofs.Members.{falls_apart}
+use Rattle.ledger.proofs.lists.taken_apart.Goals as goal
 
-pub returns : need.returns
-returns g c = falls-apart (g .S·Symbol .before) (g .S·Symbol·met .ordered)
+pub returns : goal.returns
+returns g c = falls_apart g.S.Symbol.before g.met.S.Symbol.ordered

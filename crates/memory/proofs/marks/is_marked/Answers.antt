@@ -1,13 +1,12 @@
-use native.Mathlib.Omega.{arith}
-use Rattle·std.proofs.shelf.Tests.{false≢true}
-use Rattle·memory·proofs.Marking.{marked-at, unmarked-past}
-use Rattle·memory·proofs.marks.is_marked.Needs as need
+use Rattle.std.proofs.lemmas.Bool.{false≢true}
+use Rattle.memory.proofs.Marking.{marked_at, unmarked_past}
+use Rattle.memory.proofs.marks.is_marked.Goals as goal
 
-pub returns-in-Some : need.returns-in-Some
+pub returns-in-Some : goal.returns-in-Some
 returns-in-Some c =
-    let f = c .in-Some .ensures tt .finds in
-    marked-at (c .args .marks .now) (c .args .n) (c .in-Some .place .now) (c .if-n-lt2 .left) (f .3 .0) (f .1)
+    let f = c.in-Some.ensures.lookup in
+    marked_at c.args.marks.now c.args.n c.in-Some.place.now c.if-n-lt2.false f.3.0 f.1
 
-pub returns-in-None : need.returns-in-None
+pub returns-in-None : goal.returns-in-None
 returns-in-None c =
-    (λ e. absurd (false≢true e), λ m. absurd (unmarked-past (c .args .marks .now) (c .args .n) (c .if-n-lt2 .left) (c .in-None .ensures tt .finds .3) m))
+    (λ e. absurd (false≢true e), λ m. absurd (unmarked_past c.args.marks.now c.args.n c.if-n-lt2.false c.in-None.ensures.lookup.3 m))

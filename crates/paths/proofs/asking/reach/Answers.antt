@@ -1,18 +1,18 @@
-use Rattle·paths·proofs.Leading.{lead-none, lead-more, led, led-number, led-member}
-use Rattle·paths·proofs.asking.reach.Needs as need
+use Rattle.paths.proofs.Leading.{lead_none, lead_more, led, led_number, led_member}
+use Rattle.paths.proofs.asking.reach.Goals as goal
 
-pub loop-symbol-holds : need.loop-symbol-holds
-loop-symbol-holds g c sound good = lead-none (g .S·Symbol .before) (g .S·Symbol·met .ordered) _ sound (c .args .list) good (c .args .code .now)
+pub loop-symbol-init : goal.loop-symbol-init
+loop-symbol-init g c sound good = lead_none g.S.Symbol.before g.met.S.Symbol.ordered _ sound c.args.list good c.args.code.now
 
-pub loop-symbol-again : need.loop-symbol-again
-loop-symbol-again g c sound good =
-    let k = c .loop-symbol .inv sound good in
-    lead-more (g .S·Symbol .before) (g .S·Symbol·met .ordered) _ sound (c .args .list) (c .args .code .now) (c .loop-symbol .symbol-index) (c .loop-symbol .at) _ (c .symbol-item .result)
-    (c .loop-symbol-test .taken) (c .symbol-item .is) k (c .after-symbol-at .ensures sound (k .0))
+pub loop-symbol-preserved : goal.loop-symbol-preserved
+loop-symbol-preserved g c sound good =
+    let k = c.loop-symbol.invariant sound good in
+    lead_more g.S.Symbol.before g.met.S.Symbol.ordered _ sound c.args.list c.args.code.now c.loop-symbol.symbol-index c.loop-symbol.at _ c.symbol-item.result
+    c.loop-symbol-test.true c.symbol-item.is k (c.after_symbol-at.ensures sound k.0)
 
-pub returns : need.returns
+pub returns : goal.returns
 returns g c =
     record {
-      number = λ sound good. led-number (g .S·Symbol .before) (g .S·Symbol·met .ordered) _ sound (c .args .list) _ _ (led (g .S·Symbol .before) (g .S·Symbol·met .ordered) _ sound (c .args .list) _ _ _ (c .loop-symbol-test .left) (c .loop-symbol .inv sound good));
-      member = λ sound good. led-member (g .S·Symbol .before) (g .S·Symbol·met .ordered) _ sound (c .args .list) _ _ (led (g .S·Symbol .before) (g .S·Symbol·met .ordered) _ sound (c .args .list) _ _ _ (c .loop-symbol-test .left) (c .loop-symbol .inv sound good));
+      number = λ sound good. led_number g.S.Symbol.before g.met.S.Symbol.ordered _ sound c.args.list _ _ (led g.S.Symbol.before g.met.S.Symbol.ordered _ sound c.args.list _ _ _ c.loop-symbol-test.false (c.loop-symbol.invariant sound good));
+      member = λ sound good. led_member g.S.Symbol.before g.met.S.Symbol.ordered _ sound c.args.list _ _ (led g.S.Symbol.before g.met.S.Symbol.ordered _ sound c.args.list _ _ _ c.loop-symbol-test.false (c.loop-symbol.invariant sound good));
     }

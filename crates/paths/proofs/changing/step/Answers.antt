@@ -1,26 +1,26 @@
-use mathlib.Core.Path.{sym}
-use Rattle·paths·proofs.Descending.{step-end, step-new-end, step-zero-end, step-zero, step-new, step-one}
-use Rattle·paths·proofs.changing.step.Needs as need
+use Rattle.std.proofs.Common.{sym}
+use Rattle.paths.proofs.Descending.{step_end, step_new_end, step_zero_end, step_zero, step_new, step_one}
+use Rattle.paths.proofs.changing.step.Goals as goal
 
-pub returns-then-spot-code : need.returns-then-spot-code
-returns-then-spot-code g c = step-end (g .S·Symbol .before) (g .S·Symbol·met .ordered) _ _ _ _ (c .in-rest .ensures tt .value) (c .if-spot-code .taken)
+pub returns-then-spot-code : goal.returns-then-spot-code
+returns-then-spot-code g c = step_end g.S.Symbol.before g.met.S.Symbol.ordered _ _ _ _ c.in_default.ensures.value c.if-spot-code.true
 
-pub returns-in-rest : need.returns-in-rest
-returns-in-rest g c = step-new-end (g .S·Symbol .before) (g .S·Symbol·met .ordered) _ _ _ _ (c .in-rest .ensures tt .value) (c .if-spot-code .left)
+pub returns-in_default : goal.returns-in_default
+returns-in_default g c = step_new_end g.S.Symbol.before g.met.S.Symbol.ordered _ _ _ _ c.in_default.ensures.value c.if-spot-code.false
 
-pub returns-then-spot-code-2 : need.returns-then-spot-code-2
-returns-then-spot-code-2 g c = step-zero-end (g .S·Symbol .before) (g .S·Symbol·met .ordered) _ _ _ _ _ _ _ (c .in-Some .ensures tt .below) (c .in-Some .ensures tt .value) (c .pre) (c .if-spot-code-2 .taken)
+pub returns-then-spot-code-2 : goal.returns-then-spot-code-2
+returns-then-spot-code-2 g c = step_zero_end g.S.Symbol.before g.met.S.Symbol.ordered _ _ _ _ _ _ _ c.in-Some.ensures.below c.in-Some.ensures.value c.requires c.if-spot-code-2.true
 
-pub returns-then-before : need.returns-then-before
+pub returns-then-before : goal.returns-then-before
 returns-then-before g c =
-    step-zero (g .S·Symbol .before) (g .S·Symbol·met .ordered) _ _ _ _ _ _ _ (c .in-Some .ensures tt .below) (c .in-Some .ensures tt .value) (c .index-code-spot .result) (c .if-spot-code-2 .left) (c .index-code-spot .is) (sym (c .if-before .ensures tt))
+    step_zero g.S.Symbol.before g.met.S.Symbol.ordered _ _ _ _ _ _ _ c.in-Some.ensures.below c.in-Some.ensures.value c.index-code-spot.result c.if-spot-code-2.false c.index-code-spot.is (sym c.if-before.ensures)
 
-pub returns-then-before-2 : need.returns-then-before-2
+pub returns-then-before-2 : goal.returns-then-before-2
 returns-then-before-2 g c =
-    step-new (g .S·Symbol .before) (g .S·Symbol·met .ordered) _ _ _ _ _ _ _ (c .in-Some .ensures tt .below) (c .in-Some .ensures tt .value) (c .index-code-spot .result) (c .if-spot-code-2 .left) (c .index-code-spot .is)
-    (sym (c .if-before .ensures tt)) (sym (c .if-before-2 .ensures tt))
+    step_new g.S.Symbol.before g.met.S.Symbol.ordered _ _ _ _ _ _ _ c.in-Some.ensures.below c.in-Some.ensures.value c.index-code-spot.result c.if-spot-code-2.false c.index-code-spot.is
+    (sym c.if-before.ensures) (sym c.if-before-2.ensures)
 
-pub returns : need.returns
+pub returns : goal.returns
 returns g c =
-    step-one (g .S·Symbol .before) (g .S·Symbol·met .ordered) _ _ _ _ _ _ _ (c .in-Some .ensures tt .below) (c .in-Some .ensures tt .value) (c .index-code-spot .result) (c .if-spot-code-2 .left) (c .index-code-spot .is)
-    (sym (c .if-before .ensures tt)) (sym (c .if-before-2 .ensures tt))
+    step_one g.S.Symbol.before g.met.S.Symbol.ordered _ _ _ _ _ _ _ c.in-Some.ensures.below c.in-Some.ensures.value c.index-code-spot.result c.if-spot-code-2.false c.index-code-spot.is
+    (sym c.if-before.ensures) (sym c.if-before-2.ensures)

@@ -1,13 +1,12 @@
-use Prim.Native.Nat.{_*_, _/_}
-use mathlib.Core.Path.{ap}
-use Rattle·recall_tables·specs.Slots.{slot-of}
-use Rattle·recall_tables·proofs.Entries.{part-below}
-use Rattle·recall_tables·proofs.slots.slot_of.Needs as need
+use Rattle.std.proofs.Common.{◌*◌, ◌/◌, ap}
+use Rattle.recall_tables.specs.Slots.{slot_of}
+use Rattle.recall_tables.proofs.Entries.{part_below}
+use Rattle.recall_tables.proofs.slots.slot_of.Goals as goal
 
-pub returns : need.returns
-unfolding slot-of
+pub returns : goal.returns
+unfolding slot_of
 returns c =
     record {
-      value = ap (λ n. n * c .args .count / 4294967296) (c .scatter .ensures);
-      within = part-below (c .scatter .result) (c .args .count) (c .scatter .ok);
+      value = ap (λ n. n * c.args.count / 4294967296) c.scatter.ensures;
+      within = part_below c.scatter.result c.args.count c.scatter.type_inv;
     }

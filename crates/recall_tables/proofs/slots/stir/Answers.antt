@@ -1,7 +1,7 @@
-use mathlib.Core.Path.{refl}
-use Rattle·recall_tables·specs.Slots.{stir}
-use Rattle·recall_tables·proofs.slots.stir.Needs as need
+use Rattle.std.proofs.Common.{refl}
+use Rattle.recall_tables.specs.Slots.{stir}
+use Rattle.recall_tables.proofs.slots.stir.Goals as goal
 
-pub returns : need.returns
+pub returns : goal.returns
 unfolding stir
 returns c = refl

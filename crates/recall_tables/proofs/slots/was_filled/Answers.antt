@@ -1,16 +1,13 @@
-use lib.Dec.{ltb}
-use mathlib.Core.Bool.{true}
-use mathlib.Core.Path.{_≡_, sym}
-use Rattle·std.proofs.shelf.Maps.{nth-past, nth-read}
-use Rattle·std.proofs.shelf.Tests.{lt-ltb}
-use Rattle·recall_tables·proofs.slots.was_filled.Needs as need
-use mathlib.Core.Path.{refl}
+use Rattle.std.proofs.Common.{refl}
+use Rattle.std.proofs.lemmas.Option.{slice_get_past, slice_get_read}
+use Rattle.std.proofs.lemmas.Bool.{lt-ltb}
+use Rattle.recall_tables.proofs.slots.was_filled.Goals as goal
 
-pub returns-in-Some : need.returns-in-Some
+pub returns-in-Some : goal.returns-in-Some
 returns-in-Some c =
-    let f = c .in-Some .ensures tt .finds in
-    rw (lt-ltb (c .args .turn) (c .args .turns) (c .if-turn-turns .left), nth-read (c .args .slots .now) _ (c .args .turn) (c .in-Some .note .now) refl (f .3 .0) (f .1))
+    let f = c.in-Some.ensures.lookup in
+    rw (lt-ltb c.args.turn c.args.turns c.if-turn-turns.false, slice_get_read c.args.slots.now _ c.args.turn c.in-Some.note.now refl f.3.0 f.1)
 
-pub returns-in-None : need.returns-in-None
+pub returns-in-None : goal.returns-in-None
 returns-in-None c =
-    rw (lt-ltb (c .args .turn) (c .args .turns) (c .if-turn-turns .left), nth-past (c .args .slots .now) (c .args .turn) (c .in-None .ensures tt .finds .3))
+    rw (lt-ltb c.args.turn c.args.turns c.if-turn-turns.false, slice_get_past c.args.slots.now c.args.turn c.in-None.ensures.lookup.3)

@@ -1,18 +1,17 @@
-use mathlib.Core.Path.{sym, ap, _∙_}
-use Rattle·std.specs.declared.option.Option.the-variants.{Some}
-use Rattle·std.proofs.shelf.Tests.{false≢true}
-use Rattle·ledger.proofs.Reading.{none-some, some-same}
-use Rattle·memory.proofs.Gathers.{look-at}
-use Rattle·receiving·proofs.apart.is_vertex.Needs as need
+use Rattle.std.proofs.Common.{Some, sym, ap, ◌∙◌}
+use Rattle.std.proofs.lemmas.Bool.{false≢true}
+use Rattle.ledger.proofs.Reading.{none_some, some_same}
+use Rattle.memory.proofs.Gathers.{look_at}
+use Rattle.receiving.proofs.apart.is_vertex.Goals as goal
 
-pub returns-in-Some : need.returns-in-Some
+pub returns-in-Some : goal.returns-in-Some
 returns-in-Some g c = λ ds R.
-    let at = sym (look-at ds (c .args .k)) ∙ sym (c .in-Some .ensures tt .value ds R) in (
-      λ e. at ∙ ap Some (c .same-vertex .ensures .0 e),
-      λ p. c .same-vertex .ensures .1 (some-same at p),
+    let at = sym (look_at ds c.args.k) ∙ sym (c.in-Some.ensures.value ds R) in (
+      λ e. at ∙ ap Some (c.same_vertex.ensures.0 e),
+      λ p. c.same_vertex.ensures.1 (some_same at p),
     )
 
-pub returns-in-None : need.returns-in-None
+pub returns-in-None : goal.returns-in-None
 returns-in-None g c = λ ds R.
-    let at = sym (look-at ds (c .args .k)) ∙ sym (c .in-None .ensures tt .value ds R) in
-    (λ e. absurd (false≢true e), λ p. absurd (none-some at p))
+    let at = sym (look_at ds c.args.k) ∙ sym (c.in-None.ensures.value ds R) in
+    (λ e. absurd (false≢true e), λ p. absurd (none_some at p))

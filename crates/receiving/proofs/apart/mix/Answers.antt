@@ -1,7 +1,7 @@
-use mathlib.Core.Path.{refl}
-use Rattle·receiving·specs.Tables.{mixed}
-use Rattle·receiving·proofs.apart.mix.Needs as need
+use Rattle.std.proofs.Common.{refl}
+use Rattle.receiving.specs.Tables.{mixed}
+use Rattle.receiving.proofs.apart.mix.Goals as goal
 
-pub returns : need.returns
+pub returns : goal.returns
 unfolding mixed
 returns c = refl

@@ -1,5 +1,5 @@
-use Rattle·receiving·proofs.Accepting.{only-written}
-use Rattle·receiving·proofs.inverse.only_written.Needs as need
+use Rattle.receiving.proofs.Accepting.{only_written}
+use Rattle.receiving.proofs.inverse.only_written.Goals as goal
 
-pub returns : need.returns
-returns g c = let w = g .S·WireSymbol in only-written (g .S·Symbol .before) (g .S·Symbol·met .ordered) (w .kind) (w .width) (w .bytes) (w .reads)
+pub returns : goal.returns
+returns g c = let w = g.S.WireSymbol in only_written g.S.Symbol.before g.met.S.Symbol.ordered w.kind w.width w.bytes w.reads

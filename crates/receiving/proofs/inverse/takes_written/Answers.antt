@@ -1,5 +1,5 @@
-use Rattle·receiving·proofs.Reread.{takes-written}
-use Rattle·receiving·proofs.inverse.takes_written.Needs as need
+use Rattle.receiving.proofs.Reread.{takes_written}
+use Rattle.receiving.proofs.inverse.takes_written.Goals as goal
 
-pub returns : need.returns
-returns g c = let w = g .S·WireSymbol in takes-written (g .S·Symbol .before) (g .S·Symbol·met .ordered) (w .kind) (w .width) (w .bytes) (w .reads) (g .S·WireSymbol·met .wired)
+pub returns : goal.returns
+returns g c = let w = g.S.WireSymbol in takes_written g.S.Symbol.before g.met.S.Symbol.ordered w.kind w.width w.bytes w.reads g.met.S.WireSymbol.wired

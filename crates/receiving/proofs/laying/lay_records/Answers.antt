@@ -1,51 +1,48 @@
-use mathlib.Core.Path.{refl, sym, _∙_, subst}
-use Prim.Native.Nat.{ℕ}
-use native.Mathlib.Omega.{arith}
-use Rattle·std.specs.declared.result.Result.the-variants.{Err}
-use Rattle·memory.specs.Marks.{noted-vertex}
-use Rattle·memory.specs.Shelves.{FoundOrAppended}
-use Rattle·ledger.proofs.Reading.{none-some}
-use Rattle·receiving·proofs.Records.{look-some}
-use Rattle·receiving·proofs.Downward.{laying-none, laying-more, laying-full, laying-all}
-use Rattle·receiving·proofs.laying.lay_records.Needs as need
+use Rattle.std.proofs.Common.{ℕ, Err, sym, refl, ◌∙◌, subst, arith}
+use Rattle.memory.specs.Marks.{noted_vertex}
+use Rattle.memory.specs.Shelves.{FoundOrAppended}
+use Rattle.ledger.proofs.Reading.{none_some}
+use Rattle.receiving.proofs.Records.{look_some}
+use Rattle.receiving.proofs.Downward.{laying_none, laying_more, laying_full, laying_all}
+use Rattle.receiving.proofs.laying.lay_records.Goals as goal
 
-pub loop-k-holds : need.loop-k-holds
-loop-k-holds g c = (λ r. r, refl, λ ready ds R f l s. laying-none (g .S·Symbol .before) (g .S·Symbol·met .ordered) ds (g .B·Shelf .vertices (c .args .shelf .now)) f s (c .args .work .now))
+pub loop-k-init : goal.loop-k-init
+loop-k-init g c = (λ r. r, refl, λ ready ds R f l s. laying_none g.S.Symbol.before g.met.S.Symbol.ordered ds (g.B.Shelf.vertices c.args.shelf.now) f s c.args.work.now)
 
-pub returns-in-rest : need.returns-in-rest
-returns-in-rest g c =
+pub returns-in_default : goal.returns-in_default
+returns-in_default g c =
     record {
-      answer = λ ready ds R f l good w s. absurd (let t = look-some ds (c .loop-k .k) (omega arith) in none-some (sym (c .in-rest .ensures tt .value ds R)) (t .1));
-      ready = c .loop-k .inv .0;
-      size = c .loop-k .inv .1;
+      answer = λ ready ds R f l good w s. absurd (let t = look_some ds c.loop-k.k (omega arith) in none_some (sym (c.in_default.ensures.value ds R)) t.1);
+      ready = c.loop-k.invariant.0;
+      size = c.loop-k.invariant.1;
     }
 
-pub returns-in-Err : need.returns-in-Err
+pub returns-in-Err : goal.returns-in-Err
 returns-in-Err g c =
     record {
       answer = λ ready ds R f l good w s.
-          laying-full (g .S·Symbol .before) (g .S·Symbol·met .ordered) ds (g .B·Shelf .vertices (c .args .shelf .now)) f s (c .loop-k .k) (g .B·Shelf .vertices (c .loop-k .shelf)) (c .loop-k .work) (c .loop-k .inv .2 ready ds R f l s) (c .in-Some .vertex)
-          (sym (c .in-Some .ensures tt .value ds R)) (omega arith) (g .B·Shelf .capacity (c .args .shelf .now)) (c .args .root) (c .args .count) _ (c .in-Err .full) l good w
-          (subst (λ (n : ℕ). FoundOrAppended n (g .B·Shelf .vertices (c .loop-k .shelf)) (noted-vertex (c .loop-k .work) (c .in-Some .vertex)) (Err (c .in-Err .full)) (g .B·Shelf .vertices (c .lay-vertex .last .shelf))) (c .loop-k .inv .1) (c .in-Err .ensures tt .answer (c .loop-k .inv .0 ready)));
-      ready = λ r. c .lay-vertex .ensures .ready (c .loop-k .inv .0 r);
-      size = c .lay-vertex .ensures .size ∙ c .loop-k .inv .1;
+          laying_full g.S.Symbol.before g.met.S.Symbol.ordered ds (g.B.Shelf.vertices c.args.shelf.now) f s c.loop-k.k (g.B.Shelf.vertices c.loop-k.shelf) c.loop-k.work (c.loop-k.invariant.2 ready ds R f l s) c.in-Some.vertex
+          (sym (c.in-Some.ensures.value ds R)) (omega arith) (g.B.Shelf.capacity c.args.shelf.now) c.args.root c.args.count _ c.in-Err.full l good w
+          (subst (λ (n : ℕ). FoundOrAppended n (g.B.Shelf.vertices c.loop-k.shelf) (noted_vertex c.loop-k.work c.in-Some.vertex) (Err c.in-Err.full) (g.B.Shelf.vertices c.lay_vertex.new.shelf)) c.loop-k.invariant.1 (c.in-Err.ensures.answer (c.loop-k.invariant.0 ready)));
+      ready = λ r. c.lay_vertex.ensures.ready (c.loop-k.invariant.0 r);
+      size = c.lay_vertex.ensures.size ∙ c.loop-k.invariant.1;
     }
 
-pub loop-k-again : need.loop-k-again
-loop-k-again g c = (
-  λ r. c .lay-vertex .ensures .ready (c .loop-k .inv .0 r),
-  c .lay-vertex .ensures .size ∙ c .loop-k .inv .1,
+pub loop-k-preserved : goal.loop-k-preserved
+loop-k-preserved g c = (
+  λ r. c.lay_vertex.ensures.ready (c.loop-k.invariant.0 r),
+  c.lay_vertex.ensures.size ∙ c.loop-k.invariant.1,
   λ ready ds R f l s.
-      laying-more (g .S·Symbol .before) (g .S·Symbol·met .ordered) ds (g .B·Shelf .vertices (c .args .shelf .now)) f s (c .loop-k .k) (g .B·Shelf .vertices (c .loop-k .shelf)) (c .loop-k .work) (c .loop-k .inv .2 ready ds R f l s) (c .in-Some .vertex)
-      (sym (c .in-Some .ensures tt .value ds R)) (omega arith) _ (c .in-Ok .number) _ _ (omega arith) (c .keep .ensures) (c .in-Ok .ensures tt .answer (c .loop-k .inv .0 ready)),
+      laying_more g.S.Symbol.before g.met.S.Symbol.ordered ds (g.B.Shelf.vertices c.args.shelf.now) f s c.loop-k.k (g.B.Shelf.vertices c.loop-k.shelf) c.loop-k.work (c.loop-k.invariant.2 ready ds R f l s) c.in-Some.vertex
+      (sym (c.in-Some.ensures.value ds R)) (omega arith) _ c.in-Ok.number _ _ (omega arith) c.keep.ensures (c.in-Ok.ensures.answer (c.loop-k.invariant.0 ready)),
 )
 
-pub returns : need.returns
+pub returns : goal.returns
 returns g c =
     record {
       answer = λ ready ds R f l good w s.
-          laying-all (g .S·Symbol .before) (g .S·Symbol·met .ordered) ds (g .B·Shelf .vertices (c .args .shelf .now)) f s (c .args .root) (c .args .count) (c .loop-k .k) _ (g .B·Shelf .vertices (c .loop-k .shelf)) (c .loop-k .work) (omega arith) l good w
-          (c .loop-k .inv .2 ready ds R f l s) (c .new-link .ensures .noted);
-      ready = c .loop-k .inv .0;
-      size = c .loop-k .inv .1;
+          laying_all g.S.Symbol.before g.met.S.Symbol.ordered ds (g.B.Shelf.vertices c.args.shelf.now) f s c.args.root c.args.count c.loop-k.k _ (g.B.Shelf.vertices c.loop-k.shelf) c.loop-k.work (omega arith) l good w
+          (c.loop-k.invariant.2 ready ds R f l s) c.new_link.ensures.noted;
+      ready = c.loop-k.invariant.0;
+      size = c.loop-k.invariant.1;
     }

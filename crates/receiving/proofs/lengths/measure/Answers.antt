@@ -1,19 +1,17 @@
-use mathlib.Core.Path.{_≡_, sym}
-use Prim.Native.Nat.{_+_, min, max}
-use native.Mathlib.Omega.{arith}
-use Rattle·ledger.proofs.Reading.{none-some}
-use Rattle·receiving·proofs.Records.{look-some}
-use Rattle·receiving·proofs.Lengthy.{measured-one}
-use Rattle·receiving·proofs.lengths.measure.Needs as need
+use Rattle.std.proofs.Common.{◌≡◌, ◌+◌, min, max, sym, arith}
+use Rattle.ledger.proofs.Reading.{none_some}
+use Rattle.receiving.proofs.Records.{look_some}
+use Rattle.receiving.proofs.Lengthy.{measured_one}
+use Rattle.receiving.proofs.lengths.measure.Goals as goal
 
-pub returns-in-rest : need.returns-in-rest
-returns-in-rest g c = λ ds R f h m. absurd (let s = look-some ds (c .args .k) h in none-some (sym (c .in-rest .ensures tt .value ds R)) (s .1))
+pub returns-in_default : goal.returns-in_default
+returns-in_default g c = λ ds R f h m. absurd (let s = look_some ds c.args.k h in none_some (sym (c.in_default.ensures.value ds R)) s.1)
 
-pub returns : need.returns
+pub returns : goal.returns
 returns g c = λ ds R f h m.
-    let s = c .saturating-add .ensures in
-    let p = c .min .ensures in
-    let q = c .max .ensures in
-    let e : c .max .result ≡ max (c .length-at-outer .result) (min (c .length-at-inner .result + 1) 65) = omega arith in
-    measured-one (g .S·Symbol .before) (g .S·Symbol·met .ordered) ds f (c .args .k) (c .in-Some .vertex) (c .args .work .now) (c .length-at-outer .result) (c .length-at-inner .result) (c .max .result)
-    (sym (c .in-Some .ensures tt .value ds R)) m (c .length-at-outer .ensures) (c .length-at-inner .ensures) e
+    let s = c.saturating_add.ensures in
+    let p = c.min.ensures in
+    let q = c.max.ensures in
+    let e : c.max.result ≡ max c.length_at-outer.result (min (c.length_at-inner.result + 1) 65) = omega arith in
+    measured_one g.S.Symbol.before g.met.S.Symbol.ordered ds f c.args.k c.in-Some.vertex c.args.work.now c.length_at-outer.result c.length_at-inner.result c.max.result
+    (sym (c.in-Some.ensures.value ds R)) m c.length_at-outer.ensures c.length_at-inner.ensures e

@@ -1,20 +1,17 @@
-use Prim.Native.Nat.{_<_, _≤_, min}
-use mathlib.Core.Path.{_≡_, refl}
-use native.Mathlib.Omega.{arith}
-use lib.ListN.{length}
-use Rattle·std.proofs.shelf.Lists.{length-set}
-use Rattle·row_shelf·proofs.Rows.{one-more, used-length}
-use Rattle·row_shelf·proofs.run.append.Needs as need
+use Rattle.std.proofs.Common.{min, length, refl, arith}
+use Rattle.std.proofs.lemmas.List.{length-set}
+use Rattle.row_shelf.proofs.Rows.{one_more, used_length}
+use Rattle.row_shelf.proofs.run.append.Goals as goal
 
-pub returns-then-used-capacity : need.returns-then-used-capacity
+pub returns-then-used-capacity : goal.returns-then-used-capacity
 returns-then-used-capacity g c =
-    let xs = c .args .run .now in
-    let many = used-length xs (c .args .used) (min (length xs) 1000000) (omega arith) in
+    let xs = c.args.run.now in
+    let many = used_length xs c.args.used (min (length xs) 1000000) (omega arith) in
     (omega arith, refl)
 
-pub returns : need.returns
+pub returns : goal.returns
 returns g c =
-    let xs = c .args .run .now in
+    let xs = c.args.run.now in
     let r = min (length xs) 1000000 in
-    let many = used-length xs (c .args .used) r (omega arith) in
-    (omega arith, simp length-set (one-more xs (c .args .used) r (c .min-used .result) (c .args .vertex) (omega arith) (omega arith) (omega arith)), omega arith, omega arith)
+    let many = used_length xs c.args.used r (omega arith) in
+    (omega arith, simp length-set (one_more xs c.args.used r c.min-used.result c.args.vertex (omega arith) (omega arith) (omega arith)), omega arith, omega arith)

@@ -1,28 +1,25 @@
-use mathlib.Core.Path.{_∙_, ap}
-use native.Mathlib.Omega.{arith}
-use lib.ListN.{take}
-use Rattle·std.specs.declared.option.Option.the-variants.{Some}
-use Rattle·std.proofs.shelf.Lists.{length-take-le}
-use Rattle·std.proofs.shelf.Tests.{both-ways}
-use Rattle·row_shelf·proofs.Rows.{look-read, absent-none, absent-more, absent-all}
-use Rattle·row_shelf·proofs.run.find.Needs as need
+use Rattle.std.proofs.Common.{take, Some, ap, ◌∙◌, arith}
+use Rattle.std.proofs.lemmas.List.{length-take-le}
+use Rattle.std.proofs.lemmas.Bool.{both_ways}
+use Rattle.row_shelf.proofs.Rows.{look_read, absent_none, absent_more, absent_all}
+use Rattle.row_shelf.proofs.run.find.Goals as goal
 
-pub loop-i-holds : need.loop-i-holds
-loop-i-holds g c = absent-none (take (c .args .used) (c .args .run .now)) (c .args .wanted)
+pub loop-i-init : goal.loop-i-init
+loop-i-init g c = absent_none (take c.args.used c.args.run.now) c.args.wanted
 
-pub returns-then-same-vertex : need.returns-then-same-vertex
-returns-then-same-vertex g c = (
-  look-read (c .args .run .now) (c .args .used) (c .loop-i .i) (c .index-run-i .result) (c .pre .0) (c .loop-i-test .taken) (c .index-run-i .is) ∙ ap Some (c .same-vertex .ensures .0 (c .if-same-vertex .taken)),
-  c .loop-i .inv,
+pub returns-then-same_vertex : goal.returns-then-same_vertex
+returns-then-same_vertex g c = (
+  look_read c.args.run.now c.args.used c.loop-i.i c.index-run-i.result c.requires.0 c.loop-i-test.true c.index-run-i.is ∙ ap Some (c.same_vertex.ensures.0 c.if-same_vertex.true),
+  c.loop-i.invariant,
 )
 
-pub loop-i-again : need.loop-i-again
-loop-i-again g c =
-    absent-more (take (c .args .used) (c .args .run .now)) (c .loop-i .i) (c .args .wanted) (c .index-run-i .result)
-    (look-read (c .args .run .now) (c .args .used) (c .loop-i .i) (c .index-run-i .result) (c .pre .0) (c .loop-i-test .taken) (c .index-run-i .is))
-    (λ e. both-ways (c .same-vertex .result) (c .if-same-vertex .left) (c .same-vertex .ensures .1 e)) (c .loop-i .inv)
+pub loop-i-preserved : goal.loop-i-preserved
+loop-i-preserved g c =
+    absent_more (take c.args.used c.args.run.now) c.loop-i.i c.args.wanted c.index-run-i.result
+    (look_read c.args.run.now c.args.used c.loop-i.i c.index-run-i.result c.requires.0 c.loop-i-test.true c.index-run-i.is)
+    (λ e. both_ways c.same_vertex.result c.if-same_vertex.false (c.same_vertex.ensures.1 e)) c.loop-i.invariant
 
-pub returns : need.returns
+pub returns : goal.returns
 returns g c =
-    absent-all (take (c .args .used) (c .args .run .now)) (c .args .wanted) (c .loop-i .i)
-    (rw (length-take-le (c .args .used) (c .args .run .now) (c .pre .0)) (omega arith)) (c .loop-i .inv)
+    absent_all (take c.args.used c.args.run.now) c.args.wanted c.loop-i.i
+    (rw (length-take-le c.args.used c.args.run.now c.requires.0) (omega arith)) c.loop-i.invariant

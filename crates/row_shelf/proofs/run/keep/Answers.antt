@@ -1,41 +1,38 @@
-use mathlib.Core.List.{map}
-use mathlib.Core.Path.{_≡_, _∙_, ap}
-use native.Mathlib.Omega.{arith}
-use lib.ListN.{take}
-use Rattle·std.proofs.shelf.Lists.{length-map}
-use Rattle·ledger.specs.Gather.{keep}
-use Rattle·memory.specs.Marks.{noted-vertex}
-use Rattle·memory.specs.Shelves.{is-mark, marks-in}
-use Rattle·memory.proofs.Gathers.{mark-here}
-use Rattle·row_shelf·proofs.Rows.{keeps-none, keeps-yes, keeps-no, keeps-all}
-use Rattle·row_shelf·proofs.run.keep.Needs as need
-use Rattle·row_shelf·proofs.run.keep.Needs.{then-is-marked, else-is-marked}
+use Rattle.std.proofs.Common.{◌≡◌, map, take, ap, ◌∙◌, arith}
+use Rattle.std.proofs.lemmas.List.{length-map}
+use Rattle.ledger.specs.Gather.{keep}
+use Rattle.memory.specs.Marks.{noted_vertex}
+use Rattle.memory.specs.Shelves.{is_mark, marks_in}
+use Rattle.memory.proofs.Gathers.{mark_here}
+use Rattle.row_shelf.proofs.Rows.{keeps_none, keeps_yes, keeps_no, keeps_all}
+use Rattle.row_shelf.proofs.run.keep.Goals as goal
+use Rattle.row_shelf.proofs.run.keep.Goals.{then-is_marked, else-is_marked}
 
-pub loop-i-holds : need.loop-i-holds
-loop-i-holds g c = keeps-none (noted-vertex (c .args .marks .now)) (marks-in (c .args .marks .now)) (c .args .run .now)
+pub loop-i-init : goal.loop-i-init
+loop-i-init g c = keeps_none (noted_vertex c.args.marks.now) (marks_in c.args.marks.now) c.args.run.now
 
-pub loop-i-again : need.loop-i-again
-loop-i-again g c =
-    let marked = mark-here (marks-in (c .args .marks .now)) (c .loop-i .i) (c .is-marked .result) (c .is-marked .ensures) in
-    let long = length-map (c .args .marks .now) is-mark in
-    elim (c .if-is-marked .came) [
-      | then-is-marked w ↦
-          rw (w .run-is, w .to-is, w .new-vertex .ensures .noted)
-          (keeps-yes (noted-vertex (c .args .marks .now)) (marks-in (c .args .marks .now)) (c .args .run .now) (c .loop-i .run) (c .loop-i .to) (c .loop-i .i)
-          (omega arith) (omega arith) (c .loop-i .inv) (w .index-run-i .result) (marked ∙ w .if-is-marked .taken) (w .index-run-i .is))
-      | else-is-marked w ↦
-          rw (w .run-is, w .to-is)
-          (keeps-no (noted-vertex (c .args .marks .now)) (marks-in (c .args .marks .now)) (c .args .run .now) (c .loop-i .run) (c .loop-i .to) (c .loop-i .i)
-          (omega arith) (omega arith) (c .loop-i .inv) (marked ∙ w .if-is-marked .left))
+pub loop-i-preserved : goal.loop-i-preserved
+loop-i-preserved g c =
+    let marked = mark_here (marks_in c.args.marks.now) c.loop-i.i c.is_marked.result c.is_marked.ensures in
+    let long = length-map c.args.marks.now is_mark in
+    elim c.if-is_marked.branch [
+      | then-is_marked w ↦
+          rw (w.run-is, w.to-is, w.new_vertex.ensures.noted)
+          (keeps_yes (noted_vertex c.args.marks.now) (marks_in c.args.marks.now) c.args.run.now c.loop-i.run c.loop-i.to c.loop-i.i
+          (omega arith) (omega arith) c.loop-i.invariant w.index-run-i.result (marked ∙ w.if-is_marked.true) w.index-run-i.is)
+      | else-is_marked w ↦
+          rw (w.run-is, w.to-is)
+          (keeps_no (noted_vertex c.args.marks.now) (marks_in c.args.marks.now) c.args.run.now c.loop-i.run c.loop-i.to c.loop-i.i
+          (omega arith) (omega arith) c.loop-i.invariant (marked ∙ w.if-is_marked.false))
     ]
 
-pub returns : need.returns
+pub returns : goal.returns
 returns g c =
-    let e : c .loop-i .i ≡ c .args .used = omega arith in
-    let long = length-map (c .args .marks .now) is-mark in
+    let e : c.loop-i.i ≡ c.args.used = omega arith in
+    let long = length-map c.args.marks.now is_mark in
     record {
-      few = omega (arith, c .loop-i .inv .behind);
+      few = omega (arith, c.loop-i.invariant.behind);
       vertices =
-          keeps-all (noted-vertex (c .args .marks .now)) (marks-in (c .args .marks .now)) (c .args .run .now) (c .loop-i .run) (c .loop-i .to) (c .loop-i .i) (omega arith) (c .loop-i .inv) ∙
-          ap (λ n. map (noted-vertex (c .args .marks .now)) (keep (marks-in (c .args .marks .now)) (take n (c .args .run .now)))) e;
+          keeps_all (noted_vertex c.args.marks.now) (marks_in c.args.marks.now) c.args.run.now c.loop-i.run c.loop-i.to c.loop-i.i (omega arith) c.loop-i.invariant ∙
+          ap (λ n. map (noted_vertex c.args.marks.now) (keep (marks_in c.args.marks.now) (take n c.args.run.now))) e;
     }

@@ -1,8 +1,6 @@
-use borrow.Author.Needs.{needs}
-use borrow.Author.Tests.{ltb-false}
-use Rattle·wire·proofs.Putting.{rest-is}
-use native.Mathlib.Omega.{arith}
-use Rattle·wire·proofs.head.split_head.Needs as need
+use Rattle.std.proofs.Common.{arith, rules, ltb-false}
+use Rattle.wire.proofs.Putting.{rest_is}
+use Rattle.wire.proofs.head.split_head.Goals as goal
 
-pub returns : need.returns
-returns c = record { head = search needs; rest = rest-is (c .args .bytes .now) (omega (arith, ltb-false)) }
+pub returns : goal.returns
+returns c = record { head = search rules; rest = rest_is c.args.bytes.now (omega (arith, ltb-false)) }

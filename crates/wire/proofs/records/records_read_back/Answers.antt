@@ -1,7 +1,7 @@
-use Rattle·wire·specs.Records.{travel}
-use Rattle·wire·proofs.Reading.{records-back}
-use Rattle·wire·proofs.records.records_read_back.Needs as need
+use Rattle.wire.specs.Records.{travel}
+use Rattle.wire.proofs.Reading.{records_back}
+use Rattle.wire.proofs.records.records_read_back.Goals as goal
 
-pub returns : need.returns
+pub returns : goal.returns
 returns g c =
-    records-back (g .S·Symbol .before) (g .S·Symbol·met .ordered) (travel (g .S·WireSymbol .kind) (g .S·WireSymbol .width) (g .S·WireSymbol .bytes) (g .S·WireSymbol .reads)) (g .S·WireSymbol·met .wired)
+    records_back g.S.Symbol.before g.met.S.Symbol.ordered (travel g.S.WireSymbol.kind g.S.WireSymbol.width g.S.WireSymbol.bytes g.S.WireSymbol.reads) g.met.S.WireSymbol.wired

@@ -1,34 +1,33 @@
-use mathlib.Core.Path.{sym, subst⁻¹, _∙_}
-use lib.ListN.{length}
-use Prim.Native.Nat.{_≤_}
-use Rattle·writing·specs.Met.{Sparse}
-use Rattle·writing·proofs.Turning.{start-walks, start-leads, end-leads}
-use Rattle·writing·proofs.walk.walk.Needs as need
+use Rattle.std.proofs.Common.{◌≤◌, length, ◌∙◌}
+use mathlib.Core.Path.{subst⁻¹}
+use Rattle.writing.specs.Met.{Sparse}
+use Rattle.writing.proofs.Turning.{start_walks, start_leads, end_leads}
+use Rattle.writing.proofs.walk.walk.Goals as goal
 
-pub loop-next-holds : need.loop-next-holds
-loop-next-holds g c = (
-  start-walks (c .args .seen .now) (c .start-course .last .stack) (c .start-course .result) (c .args .list) (c .start-course .ensures) (c .pre .good),
+pub loop-next-init : goal.loop-next-init
+loop-next-init g c = (
+  start_walks c.args.seen.now c.start-course.new.stack c.start-course.result c.args.list c.start-course.ensures c.requires.good,
   λ sound.
-      start-leads (c .args .seen .now) (c .start-course .last .stack) (c .start-course .result) (c .args .list) (c .start-course .ensures)
-      (g .S·Symbol .before) (g .B·Shelf .vertices (c .args .shelf .now)),
+      start_leads c.args.seen.now c.start-course.new.stack c.start-course.result c.args.list c.start-course.ensures
+      g.S.Symbol.before (g.B.Shelf.vertices c.args.shelf.now),
 )
 
-pub loop-next-again : need.loop-next-again
-loop-next-again g c = (
-  c .in-Some .ensures tt .walking .0,
-  λ sound. c .in-Some .ensures tt .value sound ∙ c .loop-next .inv .1 sound,
+pub loop-next-preserved : goal.loop-next-preserved
+loop-next-preserved g c = (
+  c.in-Some.ensures.walking.0,
+  λ sound. c.in-Some.ensures.value sound ∙ c.loop-next.invariant.1 sound,
 )
 
-pub loop-next-less : need.loop-next-less
-loop-next-less g c = c .in-Some .ensures tt .walking .1
+pub loop-next-smaller : goal.loop-next-smaller
+loop-next-smaller g c = c.in-Some.ensures.walking.1
 
-pub returns : need.returns
+pub returns : goal.returns
 returns g c =
-    let ends = c .in-rest .ensures tt .walking in
-    let was = c .loop-next .inv .0 in
+    let ends = c.in_default.ensures.walking in
+    let was = c.loop-next.invariant.0 in
     record {
-      sparse = subst⁻¹ (λ s. (c .loop-next .course .met ≤ length s) × Sparse s (c .loop-next .course .met)) (ends .1) (was .0, was .1);
+      sparse = subst⁻¹ (λ s. (c.loop-next.course.met ≤ length s) × Sparse s c.loop-next.course.met) ends.1 (was.0, was.1);
       value = λ sound.
-          end-leads (g .S·Symbol .before) (g .B·Shelf .vertices (c .args .shelf .now)) (c .loop-next .seen) (c .turn .last .seen) (c .loop-next .stack) (c .loop-next .course) (ends .0) (ends .1)
-          ∙ c .loop-next .inv .1 sound;
+          end_leads g.S.Symbol.before (g.B.Shelf.vertices c.args.shelf.now) c.loop-next.seen c.turn.new.seen c.loop-next.stack c.loop-next.course ends.0 ends.1
+          ∙ c.loop-next.invariant.1 sound;
     }

@@ -1,41 +1,39 @@
-use mathlib.Core.Path.{_∙_, refl}
-use Rattle·std.specs.declared.option.Option.the-variants.{None}
-use Rattle·std.specs.declared.result.Result.the-variants.{Ok, Err}
-use Rattle·store·specs.declared.fault.Fault.the-variants.{ShelfFull}
-use Rattle·store·specs.State.{state}
-use Rattle·store·proofs.Checks.{passed, good-list}
-use Rattle·store·proofs.Runs.{run-stands}
-use Rattle·store·proofs.Stepping.{adding}
-use Rattle·store·proofs.store.Store.add.Needs as need
+use Rattle.std.proofs.Common.{None, Ok, Err, refl, ◌∙◌}
+use Rattle.store.specs.declared.fault.Fault.TheVariants.{ShelfFull}
+use Rattle.store.specs.State.{state}
+use Rattle.store.proofs.Checks.{passed, good_list}
+use Rattle.store.proofs.Runs.{run_stands}
+use Rattle.store.proofs.Stepping.{adding}
+use Rattle.store.proofs.store.Store.add.Goals as goal
 
-pub returns-in-Ok : need.returns-in-Ok
+pub returns-in-Ok : goal.returns-in-Ok
 returns-in-Ok g c =
     record {
       answer = λ travel st.
-          let list = passed _ _ (c .in-Continue-check-list .ensures tt) in
-          let code = passed _ _ (c .in-Continue-check-code .ensures tt) in
-          let work = passed _ _ (c .in-Continue-check-work .ensures tt) in
-          let stands = run-stands (g .S·Symbol .before) (g .S·Symbol·met .ordered) _ travel (st .run) in
-          adding (g .S·Symbol .before) (g .B·Shelf .capacity (c .args .self .now .shelf))
-          (state (g .B·Shelf .vertices (c .args .self .now .shelf)) (g .R·RecallTable .table (c .args .self .now .recall)))
-          (state (g .B·Shelf .vertices (c .add .last .shelf)) (g .R·RecallTable .table (c .args .self .now .recall)))
-          (c .args .list) (c .args .code .now) (c .args .work .now) (Ok (c .in-Ok .n)) (list .1 _ ∙ code .1 _ ∙ work .1 None) travel _ _ st (c .add .ensures .ready)
-          (c .in-Ok .ensures tt .answer (st .ready) (stands .sound) (good-list _ _ (list .0)), refl);
-      size = c .add .ensures .size;
+          let list = passed _ _ c.in_ok-check_list.ensures in
+          let code = passed _ _ c.in_ok-check_code.ensures in
+          let work = passed _ _ c.in_ok-check_work.ensures in
+          let stands = run_stands g.S.Symbol.before g.met.S.Symbol.ordered _ travel st.run in
+          adding g.S.Symbol.before (g.B.Shelf.capacity c.args.self.now.shelf)
+          (state (g.B.Shelf.vertices c.args.self.now.shelf) (g.R.RecallTable.table c.args.self.now.recall))
+          (state (g.B.Shelf.vertices c.add.new.shelf) (g.R.RecallTable.table c.args.self.now.recall))
+          c.args.list c.args.code.now c.args.work.now (Ok c.in-Ok.n) (list.1 _ ∙ code.1 _ ∙ work.1 None) travel _ _ st c.add.ensures.ready
+          (c.in-Ok.ensures.answer st.ready stands.sound (good_list _ _ list.0), refl);
+      size = c.add.ensures.size;
     }
 
-pub returns-in-Err : need.returns-in-Err
+pub returns-in-Err : goal.returns-in-Err
 returns-in-Err g c =
     record {
       answer = λ travel st.
-          let list = passed _ _ (c .in-Continue-check-list .ensures tt) in
-          let code = passed _ _ (c .in-Continue-check-code .ensures tt) in
-          let work = passed _ _ (c .in-Continue-check-work .ensures tt) in
-          let stands = run-stands (g .S·Symbol .before) (g .S·Symbol·met .ordered) _ travel (st .run) in
-          adding (g .S·Symbol .before) (g .B·Shelf .capacity (c .args .self .now .shelf))
-          (state (g .B·Shelf .vertices (c .args .self .now .shelf)) (g .R·RecallTable .table (c .args .self .now .recall)))
-          (state (g .B·Shelf .vertices (c .add .last .shelf)) (g .R·RecallTable .table (c .forget .last .self)))
-          (c .args .list) (c .args .code .now) (c .args .work .now) (Err ShelfFull) (list .1 _ ∙ code .1 _ ∙ work .1 None) travel _ _ st (c .add .ensures .ready)
-          (refl, c .in-Err .ensures tt .answer (st .ready) (stands .sound) (good-list _ _ (list .0)), c .forget .ensures);
-      size = c .add .ensures .size;
+          let list = passed _ _ c.in_ok-check_list.ensures in
+          let code = passed _ _ c.in_ok-check_code.ensures in
+          let work = passed _ _ c.in_ok-check_work.ensures in
+          let stands = run_stands g.S.Symbol.before g.met.S.Symbol.ordered _ travel st.run in
+          adding g.S.Symbol.before (g.B.Shelf.capacity c.args.self.now.shelf)
+          (state (g.B.Shelf.vertices c.args.self.now.shelf) (g.R.RecallTable.table c.args.self.now.recall))
+          (state (g.B.Shelf.vertices c.add.new.shelf) (g.R.RecallTable.table c.forget.new.self))
+          c.args.list c.args.code.now c.args.work.now (Err ShelfFull) (list.1 _ ∙ code.1 _ ∙ work.1 None) travel _ _ st c.add.ensures.ready
+          (refl, c.in-Err.ensures.answer st.ready stands.sound (good_list _ _ list.0), c.forget.ensures);
+      size = c.add.ensures.size;
     }

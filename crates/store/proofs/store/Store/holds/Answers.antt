@@ -1,12 +1,11 @@
-use mathlib.Core.Path.{_∙_}
-use Rattle·std.specs.declared.option.Option.the-variants.{None}
-use Rattle·store·proofs.Checks.{passed, answered-is, good-list}
-use Rattle·store·proofs.Runs.{run-stands}
-use Rattle·store·proofs.store.Store.holds.Needs as need
+use Rattle.std.proofs.Common.{None, ◌∙◌}
+use Rattle.store.proofs.Checks.{passed, answered_is, good_list}
+use Rattle.store.proofs.Runs.{run_stands}
+use Rattle.store.proofs.store.Store.holds.Goals as goal
 
-pub returns : need.returns
+pub returns : goal.returns
 returns g c travel st =
-    let list = passed _ _ (c .in-Continue-check-list .ensures tt) in
-    let code = passed _ _ (c .in-Continue-check-code .ensures tt) in
-    let stands = run-stands (g .S·Symbol .before) (g .S·Symbol·met .ordered) _ travel (st .run) in
-    answered-is _ (list .1 _ ∙ code .1 None) _ _ (c .holds .ensures .value (stands .sound) (good-list _ _ (list .0)))
+    let list = passed _ _ c.in_ok-check_list.ensures in
+    let code = passed _ _ c.in_ok-check_code.ensures in
+    let stands = run_stands g.S.Symbol.before g.met.S.Symbol.ordered _ travel st.run in
+    answered_is _ (list.1 _ ∙ code.1 None) _ _ (c.holds.ensures.value stands.sound (good_list _ _ list.0))

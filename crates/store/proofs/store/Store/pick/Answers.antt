@@ -1,33 +1,33 @@
-use mathlib.Core.Path.{_∙_, refl}
-use Rattle·std.proofs.shelf.Results.{err-from-errBy}
-use Rattle·store·specs.State.{state}
-use Rattle·store·proofs.Checks.{passed, good-list}
-use Rattle·store·proofs.Runs.{run-stands}
-use Rattle·store·proofs.Picking.{picks-ok, picks-not}
-use Rattle·store·proofs.store.Store.pick.Needs as need
+use Rattle.std.proofs.Common.{◌∙◌}
+use Rattle.std.proofs.lemmas.Result.{err_from_is_err_and}
+use Rattle.store.specs.State.{state}
+use Rattle.store.proofs.Checks.{passed, good_list}
+use Rattle.store.proofs.Runs.{run_stands}
+use Rattle.store.proofs.Picking.{picks_ok, picks_not}
+use Rattle.store.proofs.store.Store.pick.Goals as goal
 
-pub returns : need.returns
+pub returns : goal.returns
 returns g c travel st =
-    let list = passed _ _ (c .in-Continue-check-list .ensures tt) in
-    let out = passed _ _ (c .in-Continue-check-output .ensures tt) in
-    let work = passed _ _ (c .in-Continue-check-work .ensures tt) in
-    let stands = run-stands (g .S·Symbol .before) (g .S·Symbol·met .ordered) _ travel (st .run) in
-    let good = good-list _ _ (list .0) in
-    picks-ok (g .S·Symbol .before) (g .B·Shelf .capacity (c .args .self .now .shelf))
-    (state (g .B·Shelf .vertices (c .args .self .now .shelf)) (g .R·RecallTable .table (c .args .self .now .recall)))
-    (c .args .list) (c .args .k) (c .args .out .now) (c .pick .last .out) (c .args .work .now) (λ behind. list .1 _ ∙ out .1 _ ∙ work .1 behind)
-    (c .in-Continue-length .length) (stands .short _ good) (c .in-Continue-length .ensures tt .answer (stands .sound) good)
+    let list = passed _ _ c.in_ok-check_list.ensures in
+    let out = passed _ _ c.in_ok-check_output.ensures in
+    let work = passed _ _ c.in_ok-check_work.ensures in
+    let stands = run_stands g.S.Symbol.before g.met.S.Symbol.ordered _ travel st.run in
+    let good = good_list _ _ list.0 in
+    picks_ok g.S.Symbol.before (g.B.Shelf.capacity c.args.self.now.shelf)
+    (state (g.B.Shelf.vertices c.args.self.now.shelf) (g.R.RecallTable.table c.args.self.now.recall))
+    c.args.list c.args.k c.args.out.now c.pick.new.out c.args.work.now (λ behind. list.1 _ ∙ out.1 _ ∙ work.1 behind)
+    c.in_ok-length.length (stands.short _ good) (c.in_ok-length.ensures.answer stands.sound good)
 
-pub returns-in-Break-length : need.returns-in-Break-length
-returns-in-Break-length g c travel st =
-    let list = passed _ _ (c .in-Continue-check-list .ensures tt) in
-    let out = passed _ _ (c .in-Continue-check-output .ensures tt) in
-    let work = passed _ _ (c .in-Continue-check-work .ensures tt) in
-    let stands = run-stands (g .S·Symbol .before) (g .S·Symbol·met .ordered) _ travel (st .run) in
-    let e = c .in-Break-length .ensures tt in
-    let p = err-from-errBy (c .from-residual-in-Break-length .result) (c .from-residual-in-Break-length .ensures .1) in
-    rw (p .1, p .2)
-    (picks-not (g .S·Symbol .before) (g .B·Shelf .capacity (c .args .self .now .shelf))
-    (state (g .B·Shelf .vertices (c .args .self .now .shelf)) (g .R·RecallTable .table (c .args .self .now .recall)))
-    (c .args .list) (c .args .k) (c .args .out .now) (c .pick .last .out) (c .args .work .now) (λ behind. list .1 _ ∙ out .1 _ ∙ work .1 behind)
-    _ (e .kept) (e .answer (stands .sound) (good-list _ _ (list .0))))
+pub returns-in_err-length : goal.returns-in_err-length
+returns-in_err-length g c travel st =
+    let list = passed _ _ c.in_ok-check_list.ensures in
+    let out = passed _ _ c.in_ok-check_output.ensures in
+    let work = passed _ _ c.in_ok-check_work.ensures in
+    let stands = run_stands g.S.Symbol.before g.met.S.Symbol.ordered _ travel st.run in
+    let e = c.in_err-length.ensures in
+    let p = err_from_is_err_and c.from_residual-in_err-length.result c.from_residual-in_err-length.ensures.1 in
+    rw (p.1, p.2)
+    (picks_not g.S.Symbol.before (g.B.Shelf.capacity c.args.self.now.shelf)
+    (state (g.B.Shelf.vertices c.args.self.now.shelf) (g.R.RecallTable.table c.args.self.now.recall))
+    c.args.list c.args.k c.args.out.now c.pick.new.out c.args.work.now (λ behind. list.1 _ ∙ out.1 _ ∙ work.1 behind)
+    _ e.kept (e.answer stands.sound (good_list _ _ list.0)))

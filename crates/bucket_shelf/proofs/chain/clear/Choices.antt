@@ -1,7 +1,0 @@
-use Prim.Native.Nat.{ℕ, _<_}
-use lib.ListN.{getD}
-use mathlib.Core.Path.{_≡_}
-use Rattle·bucket_shelf·proofs.chain.clear.Given as given
-
-abbrev pub Inv-loop-head : given.InvT-loop-head
-Inv-loop-head l = (b : ℕ) → b < l .head-index → getD (l .heads) b 0 ≡ 0

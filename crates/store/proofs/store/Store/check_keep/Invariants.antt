@@ -1,0 +1,8 @@
+use Rattle.std.proofs.Common.{◌≡◌, drop, None}
+use Rattle.store.specs.State.{check_lists}
+use Rattle.store.proofs.store.Store.check_keep.Given as goal
+
+abbrev pub invariant-loop-place : goal.invariant-loop-place
+invariant-loop-place g l =
+    check_lists (g.B.Shelf.vertices l.self.shelf) 0 l.keep None ≡
+    check_lists (g.B.Shelf.vertices l.self.shelf) l.place (drop l.place l.keep) None
