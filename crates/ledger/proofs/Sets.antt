@@ -12,9 +12,9 @@ pub and_right : (a b : Bool) → (a && b) ≡ true → b ≡ true
 and_right true b e = e
 and_right false b e = absurd (true_false e refl)
 
-not-true : (a : Bool) → not a ≡ true → a ≡ false
-not-true true e = sym e
-not-true false e = refl
+not_true : (a : Bool) → not a ≡ true → a ≡ false
+not_true true e = sym e
+not_true false e = refl
 
 module _ {S : Type 0} where
   pub begun_same : {a b : S} {z y o p : Codes S} → a ≡ b → z ≡ y → o ≡ p → begun a z o ≡ begun b y p
@@ -24,7 +24,7 @@ module _ {S : Type 0} (before : S → S → Bool) (order : Order before) where
   -- the test
   pub symbol_same : (a b : S) → same_symbol before a b ≡ true → a ≡ b
   symbol_same a b e =
-      order.connected a b (not-true _ (and_left (not (before a b)) (not (before b a)) e)) (not-true _ (and_right (not (before a b)) (not (before b a)) e))
+      order.connected a b (not_true _ (and_left (not (before a b)) (not (before b a)) e)) (not_true _ (and_right (not (before a b)) (not (before b a)) e))
 
   pub symbol_self : (a : S) → same_symbol before a a ≡ true
   symbol_self a = rw (order.irreflexive a)

@@ -30,8 +30,8 @@ loop-i-preserved g c =
     let es = c.loop-i.records in
     let to = c.loop-i.to in
     let i = c.loop-i.i in
-    let in-marks : i < length ms = omega (arith, length-map ps is_mark) in
-    let in-records : i < length xs = omega (arith, length_vertices c.args.records.now) in
+    let in_marks : i < length ms = omega (arith, length-map ps is_mark) in
+    let in_records : i < length xs = omega (arith, length_vertices c.args.records.now) in
     let marked : get_or ms i false ≡ c.is_marked.result = mark_here ms i c.is_marked.result c.is_marked.ensures in
     elim c.if-is_marked.branch [
       | then-is_marked w ↦
@@ -39,13 +39,13 @@ loop-i-preserved g c =
           let P : List (Vertex g.row.S.Denot) → Type 0 = λ ys. Keeps f ms xs ys (to + 1) (i + 1) in
           rw (w.records-is, w.to-is, w.heads-is) (
             subst P (sym w.keep_vertex.ensures.vertices)
-                (keeps_yes f ms xs (vertices_in es) to i v in-marks in-records (marked ∙ w.if-is_marked.true)
+                (keeps_yes f ms xs (vertices_in es) to i v in_marks in_records (marked ∙ w.if-is_marked.true)
                 (get_or_vertices es i w.entry_at-entry.result (omega arith) w.entry_at-entry.ensures) c.loop-i.invariant.0),
             w.keep_vertex.ensures.ready c.loop-i.invariant.1,
           )
       | else-is_marked w ↦
           rw (w.records-is, w.to-is, w.heads-is) (
-            keeps_no f ms xs (vertices_in es) to i in-marks in-records (marked ∙ w.if-is_marked.false) c.loop-i.invariant.0,
+            keeps_no f ms xs (vertices_in es) to i in_marks in_records (marked ∙ w.if-is_marked.false) c.loop-i.invariant.0,
             c.loop-i.invariant.1,
           )
     ]

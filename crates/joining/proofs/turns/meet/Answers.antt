@@ -30,13 +30,13 @@ returns-in-Some-recall g c =
 pub returns-in_default-take_apart : goal.returns-in_default-take_apart
 returns-in_default-take_apart g c =
     let near = nearer_known c.args.work.now c.args.height c.args.pair 0 c.requires in
-    let open-pair = c.in_default.ensures in
+    let open_pair = c.in_default.ensures in
     record {
       fits = near.fits;
       falls = near.falls;
       goes = λ old goal R.
           absurd
-          (turn_never g.S.Symbol.before g.met.S.Symbol.ordered old (number_of c.args.rule) goal _ _ c.args.work.now c.args.height c.args.pair R open-pair.0 open-pair.1 open-pair.2
+          (turn_never g.S.Symbol.before g.met.S.Symbol.ordered old (number_of c.args.rule) goal _ _ c.args.work.now c.args.height c.args.pair R open_pair.0 open_pair.1 open_pair.2
           (sym (c.in_default-take_apart.ensures.value R.sound.formed)));
     }
 
@@ -47,7 +47,7 @@ returns g c =
     subst⁻¹ (λ (ps : List Place). Nearer c.args.work.now (meeting c.args.height c.args.pair) ps (meeting (c.args.height + 1) c.in-Some-take_apart.split.outer))
     c.write_frame.ensures
     (nearer_push c.args.work.now c.args.height c.args.pair c.in-Some-take_apart.split.outer c.requires low) in
-    let open-pair = c.in_default.ensures in
+    let open_pair = c.in_default.ensures in
     let r = c.requires.reaches in
     let room : c.args.height < length c.args.work.now = omega arith in
     record {
@@ -56,6 +56,6 @@ returns g c =
       goes = λ old goal R.
           subst⁻¹ (λ (ps : List Place). Running g.S.Symbol.before old (number_of c.args.rule) goal (g.B.Shelf.vertices c.args.shelf.now) (g.R.RecallTable.table c.args.recall.now) ps (meeting (c.args.height + 1) c.in-Some-take_apart.split.outer))
           c.write_frame.ensures
-          (turn_push g.S.Symbol.before g.met.S.Symbol.ordered old (number_of c.args.rule) goal _ _ c.args.work.now c.args.height c.args.pair R open-pair.0 open-pair.1
+          (turn_push g.S.Symbol.before g.met.S.Symbol.ordered old (number_of c.args.rule) goal _ _ c.args.work.now c.args.height c.args.pair R open_pair.0 open_pair.1
           c.in-Some-take_apart.split (sym (c.in-Some-take_apart.ensures.value R.sound.formed)) room);
     }

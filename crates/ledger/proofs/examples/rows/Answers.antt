@@ -9,23 +9,23 @@ use Rattle.ledger.proofs.Reading.{none_some, some_same, true_false}
 use Rattle.ledger.proofs.examples.rows.Goals as goal
 
 -- nothing is reached from a terminal
-from-terminal : {k n : ℕ} → look third k ≡ None → Reached third k n → ⊥
-from-terminal e (itself v p q) = none_some e p
-from-terminal e (over_zero v p r) = none_some e p
-from-terminal e (over_one v p r) = none_some e p
+from_terminal : {k n : ℕ} → look third k ≡ None → Reached third k n → ⊥
+from_terminal e (itself v p q) = none_some e p
+from_terminal e (over_zero v p r) = none_some e p
+from_terminal e (over_one v p r) = none_some e p
 
-from-2 : {k n : ℕ} → k ≡ 2 → Reached third k n → Marked marks n
-from-2 e (itself v p q) = subst (Marked marks) (sym e ∙ q) refl
-from-2 {k} e (over_zero v p r) = let is : vertex 66 0 1 ≡ v = some_same refl (ap (look third) (sym e) ∙ p) in absurd (from-terminal (ap (λ (x : Vertex ℕ). look third x.zero) (sym is)) r)
-from-2 {k} e (over_one v p r) = let is : vertex 66 0 1 ≡ v = some_same refl (ap (look third) (sym e) ∙ p) in absurd (from-terminal (ap (λ (x : Vertex ℕ). look third x.one) (sym is)) r)
+from_2 : {k n : ℕ} → k ≡ 2 → Reached third k n → Marked marks n
+from_2 e (itself v p q) = subst (Marked marks) (sym e ∙ q) refl
+from_2 {k} e (over_zero v p r) = let is : vertex 66 0 1 ≡ v = some_same refl (ap (look third) (sym e) ∙ p) in absurd (from_terminal (ap (λ (x : Vertex ℕ). look third x.zero) (sym is)) r)
+from_2 {k} e (over_one v p r) = let is : vertex 66 0 1 ≡ v = some_same refl (ap (look third) (sym e) ∙ p) in absurd (from_terminal (ap (λ (x : Vertex ℕ). look third x.one) (sym is)) r)
 
-from-4 : {k n : ℕ} → k ≡ 4 → Reached third k n → Marked marks n
-from-4 e (itself v p q) = subst (Marked marks) (sym e ∙ q) refl
-from-4 {k} e (over_zero v p r) = let is : vertex 65 2 2 ≡ v = some_same refl (ap (look third) (sym e) ∙ p) in from-2 (ap (λ (x : Vertex ℕ). x.zero) (sym is)) r
-from-4 {k} e (over_one v p r) = let is : vertex 65 2 2 ≡ v = some_same refl (ap (look third) (sym e) ∙ p) in from-2 (ap (λ (x : Vertex ℕ). x.one) (sym is)) r
+from_4 : {k n : ℕ} → k ≡ 4 → Reached third k n → Marked marks n
+from_4 e (itself v p q) = subst (Marked marks) (sym e ∙ q) refl
+from_4 {k} e (over_zero v p r) = let is : vertex 65 2 2 ≡ v = some_same refl (ap (look third) (sym e) ∙ p) in from_2 (ap (λ (x : Vertex ℕ). x.zero) (sym is)) r
+from_4 {k} e (over_one v p r) = let is : vertex 65 2 2 ≡ v = some_same refl (ap (look third) (sym e) ∙ p) in from_2 (ap (λ (x : Vertex ℕ). x.one) (sym is)) r
 
 back : {k n : ℕ} → Memᴰ k (4 ∷ []) → Reached third k n → Marked marks n
-back (Memᴰ.head e) r = from-4 e r
+back (Memᴰ.head e) r = from_4 e r
 back (Memᴰ.tail m) r = elim m [ ]
 
 there : (n : ℕ) (v : Vertex ℕ) → look third n ≡ Some v → Marked marks n → (k : ℕ) × Memᴰ k (4 ∷ []) × Reached third k n

@@ -14,7 +14,7 @@ loop-frame-init g c = (omega arith, omega arith, λ sound good. (good, refl, λ 
 pub loop-frame-preserved : goal.loop-frame-preserved
 loop-frame-preserved g c =
     let st = c.in-Some.ensures in
-    let in-work : c.loop-frame.height < length c.loop-frame.work = omega (arith, c.loop-frame.invariant.0, c.loop-frame.invariant.1, st.falls, st.less, st.inside) in (
+    let in_work : c.loop-frame.height < length c.loop-frame.work = omega (arith, c.loop-frame.invariant.0, c.loop-frame.invariant.1, st.falls, st.less, st.inside) in (
       st.inside,
       simp length-set (omega (arith, c.loop-frame.invariant.1, st.falls)),
       λ sound good.
@@ -24,7 +24,7 @@ loop-frame-preserved g c =
             λ change.
                 waits_push g.S.Symbol.before (g.B.Shelf.vertices c.args.shelf.now) _ c.loop-frame.work c.loop-frame.height c.to_place.result c.in-Some.frame _
                 (changed g.S.Symbol.before change (codes (g.B.Shelf.vertices c.args.shelf.now) c.loop-frame.at) (drop c.loop-frame.spot c.args.code.now)) _
-                in-work c.to_place.ensures (st.makes sound k.0 change)
+                in_work c.to_place.ensures (st.makes sound k.0 change)
                 (changed_proper g.S.Symbol.before g.met.S.Symbol.ordered change _ _ (codes_proper g.S.Symbol.before g.met.S.Symbol.ordered _ sound c.loop-frame.at k.0))
                 (k.2 change),
           ),
