@@ -7,8 +7,15 @@
 ghost use Rattle.std.specs.Prelude.{◌≡◌, ℕ, ◌≤◌, Bool, true, false, ◌↔◌, List, ◌++◌, length, drop, Result};
 ghost use Rattle.symbols.specs.Order.{Order, OneBefore};
 ghost use Rattle.symbols.specs.Refusals.{symbol_refusal};
-ghost use Rattle.symbols.specs.Wire.{WireLaws};
+ghost use Rattle.symbols.specs.Wire.{Travel, WireLaws};
 ghost use Rattle.symbols.specs.declared.SymbolFault.{SymbolFault};
+
+// No code has more symbols.
+pub const LONGEST_CODE: usize = 64;
+
+// The output is too short for what was to be written there, and is left as it was.
+#[derive(Clone, Copy, Debug, PartialEq, Eq)]
+pub struct ShortOutput;
 
 // The byte that makes no symbol.
 #[derive(Clone, Copy, Debug, PartialEq, Eq)]
@@ -24,14 +31,14 @@ pub struct Refusal {
     pub symbol: Option<SymbolFault>,
 }
 
-impl SymbolFault {
-    // Refusal 1, with the byte.
-    pub fn refusal(self) -> Refusal
-        ensures { result ≡ symbol_refusal self }
-    {
+// Refusal 1, with the byte.
+impl From<SymbolFault> for Refusal {
+    ghost from_gives = { λ fault r. r ≡ symbol_refusal fault };
+
+    fn from(fault: SymbolFault) -> Refusal {
         Refusal {
             number: 1,
-            detail: self.byte as usize,
+            detail: usize::from(fault.byte),
             symbol: None,
         }
     }
@@ -55,33 +62,26 @@ pub trait Symbol: Copy {
 
 // A symbol that travels: its kind has a number and a width, and each symbol has its bytes.
 pub trait WireSymbol: Symbol {
-    ghost kind: { ℕ };
-
-    ghost width: { ℕ };
-
-    // the bytes of a symbol
-    ghost bytes: { Self → List ℕ };
-
-    // what bytes read as
-    ghost reads: { List ℕ → Result Self SymbolFault };
+    // the number, the width, the bytes of a symbol, and what bytes read as
+    ghost travel: { Travel Self };
 
     fn kind() -> u8
-        ensures { result ≡ kind };
+        ensures { result ≡ travel.kind };
 
     fn width() -> usize
-        ensures { result ≡ width };
+        ensures { result ≡ travel.width };
 
     // Writes the symbol's bytes to the start of `out`.
     fn write(self, out: &mut [u8])
-        requires { width ≤ length out.old }
-        ensures { out.new ≡ bytes self ++ drop width out.old };
+        requires { travel.width ≤ length out.old }
+        ensures { out.new ≡ travel.bytes self ++ drop travel.width out.old };
 
     // The symbol that exactly these bytes are.
     fn read(from: &[u8]) -> Result<Self, SymbolFault>
-        requires { length from.now ≡ width }
-        ensures { result ≡ reads from.now };
+        requires { length from.now ≡ travel.width }
+        ensures { result ≡ travel.reads from.now };
 
-    ghost wired: { WireLaws kind width bytes reads };
+    ghost wired: { WireLaws travel };
 }
 
 // Whether two symbols are one and the same: neither comes before the other.
