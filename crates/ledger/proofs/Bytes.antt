@@ -37,7 +37,7 @@ abbrev Fit : {S : Type 0} → List (Vertex S) → Type 0
 Fit [] = Unit {0}
 Fit (v ∷ vs) = (v.zero < 2 ^ 32) × (v.one < 2 ^ 32) × Fit vs
 
-module _ {S : Type 0} (kind width : ℕ) (bytes : S → List ℕ) (reads : List ℕ → Result S SymbolFault) (laws : WireLaws kind width bytes reads) where
+module _ {S : Type 0} (kind width : ℕ) (bytes : S → List ℕ) (reads : List ℕ → Result S SymbolFault) (laws : WireLaws (record { kind = kind; width = width; bytes = bytes; reads = reads })) where
   -- no two symbols have the same bytes
   symbol_same : (s t : S) → bytes s ≡ bytes t → s ≡ t
   symbol_same s t e = let same : ◌≡◌ {A = Result S SymbolFault} (Ok s) (Ok t) = sym (laws.back s) ∙ ap reads e ∙ laws.back t in cc
@@ -93,7 +93,7 @@ module _ {S : Type 0} (before : S → S → Bool) (order : Order before) where
       let few = at_least before order ds vs l.sound f.later (fresh before t).root (length (lay before [] t)) many n (same_lists before order ds vs l.sound.formed f (fresh before t).root n l.good g l.is) in
       omega (arith, written_long before order t p)
 
-  module _ (kind width : ℕ) (bytes : S → List ℕ) (reads : List ℕ → Result S SymbolFault) (laws : WireLaws kind width bytes reads) where
+  module _ (kind width : ℕ) (bytes : S → List ℕ) (reads : List ℕ → Result S SymbolFault) (laws : WireLaws (record { kind = kind; width = width; bytes = bytes; reads = reads })) where
     -- equal bytes are of equal vertices and roots
     drawings_same : (d e : Drawing S) → Formed before d.drawn → Formed before e.drawn → length d.drawn ≤ 1000000 → length e.drawn ≤ 1000000 →
         Good d.drawn d.root → Good e.drawn e.root → dispatch kind width bytes d ≡ dispatch kind width bytes e → d ≡ e

@@ -1,6 +1,7 @@
 -- What is proved of every row of vertices, every diagram and every dispatch.
 use Rattle.std.specs.Prelude.{◌≡◌, ℕ, ◌≤◌, Bool, ◌⊎◌, ◌↔◌, List, [], ◌++◌, length}
 use mathlib.Core.List.{Memᴰ}
+use Rattle.symbols.specs.Wire.{Travel}
 use Rattle.ledger.specs.Lists.{Codes, Member, Proper, Part}
 use Rattle.ledger.specs.declared.Vertex.{Vertex}
 use Rattle.ledger.specs.Diagrams.{Has, SameCodes, Good, Formed, Different, Sound, IsDiagram, Reached, Counts}
@@ -101,15 +102,17 @@ Accepted {S} before =
     (Different vs × Visits vs 0 root (length vs)) ↔ (fresh before (codes vs root) ≡ record { drawn = vs; root = root })
 
 -- so of the bytes: those of formed vertices and a root are what writing the root's list gives under the same conditions
-abbrev pub Received : {S : Type 0} → (S → S → Bool) → (kind width : ℕ) → (S → List ℕ) → Type 0
-Received {S} before kind width bytes =
+abbrev pub Received : {S : Type 0} → (S → S → Bool) → Travel S → Type 0
+Received {S} before travel =
     (vs : List (Vertex S)) → Formed before vs → length vs ≤ 1000000 → (root : ℕ) → Good vs root →
     (Different vs × Visits vs 0 root (length vs)) ↔
-    (dispatch kind width bytes (fresh before (codes vs root)) ≡ dispatch kind width bytes (record { drawn = vs; root = root }))
+    (dispatch travel.kind travel.width travel.bytes (fresh before (codes vs root)) ≡
+    dispatch travel.kind travel.width travel.bytes (record { drawn = vs; root = root }))
 
 -- a list written from one row and a list written from another give equal bytes exactly when they have the same codes
-abbrev pub WrittenAlike : {S : Type 0} → (S → S → Bool) → (kind width : ℕ) → (S → List ℕ) → Type 0
-WrittenAlike {S} before kind width bytes =
+abbrev pub WrittenAlike : {S : Type 0} → (S → S → Bool) → Travel S → Type 0
+WrittenAlike {S} before travel =
     (vs ws : List (Vertex S)) → Sound before vs → Sound before ws → length vs ≤ 1000000 → length ws ≤ 1000000 →
     (m n : ℕ) → Good vs m → Good ws n →
-    (dispatch kind width bytes (fresh before (codes vs m)) ≡ dispatch kind width bytes (fresh before (codes ws n))) ↔ SameCodes vs m ws n
+    (dispatch travel.kind travel.width travel.bytes (fresh before (codes vs m)) ≡
+    dispatch travel.kind travel.width travel.bytes (fresh before (codes ws n))) ↔ SameCodes vs m ws n

@@ -9,11 +9,9 @@ use crate::diagrams;
 use symbols::Symbol;
 
 // The worked rows, by one statement.
-pub fn rows() -> u8
+pub fn rows()
     ensures { Rows }
-{
-    0
-}
+{}
 
 // A number, as a symbol in order of value.
 #[derive(Drop, Clone, Copy)]
@@ -38,7 +36,7 @@ impl Symbol for Numeral {
 }
 
 // The theorems hold of a kind of symbol that there is.
-pub fn canonical_numerals() -> u8
+pub fn canonical_numerals()
     ensures { Canonical {S = Numeral} (λ a b. nat_lt a.value b.value) }
 {
     diagrams::canonical::<Numeral>()

@@ -96,7 +96,7 @@ head_right kind width capacity bs h rest p =
       rest_is = ap (λ (x : Head × List ℕ). x.1) pair;
     }
 
-module _ {S : Type 0} (kind width : ℕ) (bytes : S → List ℕ) (reads : List ℕ → Result S SymbolFault) (laws : WireLaws kind width bytes reads) where
+module _ {S : Type 0} (kind width : ℕ) (bytes : S → List ℕ) (reads : List ℕ → Result S SymbolFault) (laws : WireLaws (record { kind = kind; width = width; bytes = bytes; reads = reads })) where
   abbrev t : Travel S
   t = travel kind width bytes reads
 

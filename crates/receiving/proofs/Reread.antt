@@ -55,7 +55,7 @@ word_at p q w i e =
     at : (n : ℕ) → get_or (p ++ q) (w + n) 0 ≡ get_or q n 0
     at n = ap (λ m. get_or (p ++ q) (m + n) 0) (sym e) ∙ get_or-append-add p q n 0
 
-module _ {S : Type 0} (before : S → S → Bool) (order : Order before) (kind width : ℕ) (bytes : S → List ℕ) (reads : List ℕ → Result S SymbolFault) (laws : WireLaws kind width bytes reads) where
+module _ {S : Type 0} (before : S → S → Bool) (order : Order before) (kind width : ℕ) (bytes : S → List ℕ) (reads : List ℕ → Result S SymbolFault) (laws : WireLaws (record { kind = kind; width = width; bytes = bytes; reads = reads })) where
   abbrev t : Travel S
   t = travel kind width bytes reads
 

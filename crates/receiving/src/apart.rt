@@ -98,7 +98,7 @@ fn clear(work: &mut [Place], count: u32)
 fn is_vertex<S: WireSymbol>(records: &[u8], k: u32, vertex: Vertex<S>) -> bool
     requires long { length records.now ≤ 16000000 }
     requires few { k ≤ 1000000 }
-    ensures { (ds : List (Row S)) → ReadAs (travel S.WireSymbol.kind S.WireSymbol.width S.WireSymbol.bytes S.WireSymbol.reads) records.now ds → (result ≡ true) ↔ (slice_get ds k ≡ Some vertex) }
+    ensures { (ds : List (Row S)) → ReadAs S.WireSymbol.travel records.now ds → (result ≡ true) ↔ (slice_get ds k ≡ Some vertex) }
 {
     match vertex_at::<S>(records, k + 2) {
         Some(other) => same_vertex(other, vertex),
@@ -118,7 +118,7 @@ fn seen_before<S: WireSymbol>(
     requires room { count ≤ length work.now }
     requires few { count ≤ 1000000 }
     requires index { k < count }
-    ensures { (ds : List (Row S)) → ReadAs (travel S.WireSymbol.kind S.WireSymbol.width S.WireSymbol.bytes S.WireSymbol.reads) records.now ds → Table S.Symbol.scatter ds count k work.now → (result ≡ true) ↔ ((j : ℕ) × (j < k) × (slice_get ds j ≡ Some vertex)) }
+    ensures { (ds : List (Row S)) → ReadAs S.WireSymbol.travel records.now ds → Table S.Symbol.scatter ds count k work.now → (result ≡ true) ↔ ((j : ℕ) × (j < k) × (slice_get ds j ≡ Some vertex)) }
 {
     let mut link = head_at(work, bucket_of(vertex, count)).min(k);
     while link > 0 {
@@ -136,7 +136,7 @@ pub fn all_apart<S: WireSymbol>(records: &[u8], count: u32, work: &mut [Place]) 
     requires long { length records.now ≤ 16000000 }
     requires room { count ≤ length work.old }
     requires few { count ≤ 1000000 }
-    ensures { (ds : List (Row S)) → ReadAs (travel S.WireSymbol.kind S.WireSymbol.width S.WireSymbol.bytes S.WireSymbol.reads) records.now ds → length ds ≡ count → (result ≡ true) ↔ Different ds }
+    ensures { (ds : List (Row S)) → ReadAs S.WireSymbol.travel records.now ds → length ds ≡ count → (result ≡ true) ↔ Different ds }
 {
     clear(work, count);
     for k in 0..count {

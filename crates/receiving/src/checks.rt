@@ -20,7 +20,7 @@ pub fn read_head<'a, S: WireSymbol>(
     bytes: &'a [u8],
     capacity: u32,
 ) -> Result<(Head, &'a [u8]), ReceiveFault>
-    ensures { plain_head result ≡ head_checked S.WireSymbol.kind S.WireSymbol.width capacity bytes.now }
+    ensures { plain_head result ≡ head_checked S.WireSymbol.travel.kind S.WireSymbol.travel.width capacity bytes.now }
 {
     let Some((head, rest)) = split_head(bytes) else {
         return Err(ReceiveFault::BadLength);
@@ -46,8 +46,8 @@ pub fn read_head<'a, S: WireSymbol>(
 // One record, with the label of its zero link.
 fn check_record<S: WireSymbol>(records: &[u8], k: u32) -> Result<Vertex<S>, RecordFault>
     requires few { k ≤ 16000000 }
-    requires there { (k + 1) * (S.WireSymbol.width + 8) ≤ length records.now }
-    ensures { result ≡ record_checked S.Symbol.before (travel S.WireSymbol.kind S.WireSymbol.width S.WireSymbol.bytes S.WireSymbol.reads) records.now k }
+    requires there { (k + 1) * (S.WireSymbol.travel.width + 8) ≤ length records.now }
+    ensures { result ≡ record_checked S.Symbol.before S.WireSymbol.travel records.now k }
 {
     let vertex: Vertex<S> = read_at(records, k)?;
     if !zero_label_after(vertex.label, vertex.zero, records) {
@@ -59,8 +59,8 @@ fn check_record<S: WireSymbol>(records: &[u8], k: u32) -> Result<Vertex<S>, Reco
 // Every record, first to last.
 pub fn check_records<S: WireSymbol>(records: &[u8], count: u32) -> Result<(), FaultyRecord>
     requires few { count ≤ 1000000 }
-    requires long { length records.now ≡ count * (S.WireSymbol.width + 8) }
-    ensures { Checked S.Symbol.before (travel S.WireSymbol.kind S.WireSymbol.width S.WireSymbol.bytes S.WireSymbol.reads) count records.now result }
+    requires long { length records.now ≡ count * (S.WireSymbol.travel.width + 8) }
+    ensures { Checked S.Symbol.before S.WireSymbol.travel count records.now result }
 {
     for place in 0..count {
         if let Err(fault) = check_record::<S>(records, place) {

@@ -5,15 +5,11 @@ ghost use Rattle.receiving.specs.Statements.{OnlyWritten, TakesWritten};
 use symbols::{Symbol, WireSymbol};
 
 // Bytes that are accepted are what writing gives.
-pub fn only_written<S: WireSymbol>() -> u8
-    ensures { OnlyWritten S.Symbol.before (travel S.WireSymbol.kind S.WireSymbol.width S.WireSymbol.bytes S.WireSymbol.reads) }
-{
-    0
-}
+pub fn only_written<S: WireSymbol>()
+    ensures { OnlyWritten S.Symbol.before S.WireSymbol.travel }
+{}
 
 // What writing gives is accepted, if it fits.
-pub fn takes_written<S: WireSymbol>() -> u8
-    ensures { TakesWritten S.Symbol.before (travel S.WireSymbol.kind S.WireSymbol.width S.WireSymbol.bytes S.WireSymbol.reads) }
-{
-    0
-}
+pub fn takes_written<S: WireSymbol>()
+    ensures { TakesWritten S.Symbol.before S.WireSymbol.travel }
+{}

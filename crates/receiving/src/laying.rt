@@ -58,7 +58,7 @@ fn lay_records<S: WireSymbol, B: Shelf<S>>(
     requires long { length records.now ≤ 16000000 }
     requires few { count ≤ 1000000 }
     requires room { count ≤ length work.old }
-    ensures answer { B.Shelf.ready shelf.old → (ds : List (Row S)) → ReadAs (travel S.WireSymbol.kind S.WireSymbol.width S.WireSymbol.bytes S.WireSymbol.reads) records.now ds → Formed S.Symbol.before ds → length ds ≡ count → Good ds root → Visits ds 0 root count →
+    ensures answer { B.Shelf.ready shelf.old → (ds : List (Row S)) → ReadAs S.WireSymbol.travel records.now ds → Formed S.Symbol.before ds → length ds ≡ count → Good ds root → Visits ds 0 root count →
         Sound S.Symbol.before (B.Shelf.vertices shelf.old) → Settled S.Symbol.before (B.Shelf.capacity shelf.old) (B.Shelf.vertices shelf.old) (codes ds root) result (B.Shelf.vertices shelf.new) }
     ensures ready { B.Shelf.ready shelf.old → B.Shelf.ready shelf.new }
     ensures size { B.Shelf.capacity shelf.new ≡ B.Shelf.capacity shelf.old }
@@ -87,7 +87,7 @@ pub fn lay_down<S: WireSymbol, B: Shelf<S>>(
     requires long { length records.now ≤ 16000000 }
     requires few { count ≤ 1000000 }
     requires room { count ≤ length work.old }
-    ensures answer { B.Shelf.ready shelf.old → (ds : List (Row S)) → ReadAs (travel S.WireSymbol.kind S.WireSymbol.width S.WireSymbol.bytes S.WireSymbol.reads) records.now ds → Formed S.Symbol.before ds → length ds ≡ count → Good ds root → Visits ds 0 root count →
+    ensures answer { B.Shelf.ready shelf.old → (ds : List (Row S)) → ReadAs S.WireSymbol.travel records.now ds → Formed S.Symbol.before ds → length ds ≡ count → Good ds root → Visits ds 0 root count →
         Sound S.Symbol.before (B.Shelf.vertices shelf.old) → Lays S.Symbol.before (B.Shelf.capacity shelf.old) (B.Shelf.vertices shelf.old) (codes ds root) result (B.Shelf.vertices shelf.new) }
     ensures ready { B.Shelf.ready shelf.old → B.Shelf.ready shelf.new }
     ensures size { B.Shelf.capacity shelf.new ≡ B.Shelf.capacity shelf.old }

@@ -31,7 +31,7 @@ fn measure<S: WireSymbol>(records: &[u8], work: &[Place], k: u32) -> u32
     requires long { length records.now ≤ 16000000 }
     requires few { k ≤ 1000000 }
     requires room { k < length work.now }
-    ensures { (ds : List (Row S)) → ReadAs (travel S.WireSymbol.kind S.WireSymbol.width S.WireSymbol.bytes S.WireSymbol.reads) records.now ds → Formed S.Symbol.before ds → k < length ds → Measured ds k work.now → result ≡ min (longest (codes ds (suc (suc k)))) 65 }
+    ensures { (ds : List (Row S)) → ReadAs S.WireSymbol.travel records.now ds → Formed S.Symbol.before ds → k < length ds → Measured ds k work.now → result ≡ min (longest (codes ds (suc (suc k)))) 65 }
 {
     let Some(vertex) = vertex_at::<S>(records, k + 2) else {
         return 0;
@@ -46,7 +46,7 @@ fn measure_all<S: WireSymbol>(records: &[u8], count: u32, work: &mut [Place])
     requires long { length records.now ≤ 16000000 }
     requires few { count ≤ 1000000 }
     requires room { count ≤ length work.old }
-    ensures { (ds : List (Row S)) → ReadAs (travel S.WireSymbol.kind S.WireSymbol.width S.WireSymbol.bytes S.WireSymbol.reads) records.now ds → Formed S.Symbol.before ds → length ds ≡ count → Measured ds count work.new }
+    ensures { (ds : List (Row S)) → ReadAs S.WireSymbol.travel records.now ds → Formed S.Symbol.before ds → length ds ≡ count → Measured ds count work.new }
 {
     for k in 0..count {
         let number = measure::<S>(records, work, k);
@@ -73,7 +73,7 @@ pub fn too_long<S: WireSymbol>(records: &[u8], count: u32, root: u32, work: &mut
     requires few { count ≤ 1000000 }
     requires room { count ≤ length work.old }
     requires good { root ≤ count + 1 }
-    ensures { (ds : List (Row S)) → ReadAs (travel S.WireSymbol.kind S.WireSymbol.width S.WireSymbol.bytes S.WireSymbol.reads) records.now ds → Formed S.Symbol.before ds → length ds ≡ count → (result ≡ true) ↔ Long (codes ds root) }
+    ensures { (ds : List (Row S)) → ReadAs S.WireSymbol.travel records.now ds → Formed S.Symbol.before ds → length ds ≡ count → (result ≡ true) ↔ Long (codes ds root) }
 {
     measure_all::<S>(records, count, work);
     is_over(length_at(work, root))

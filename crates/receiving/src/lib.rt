@@ -38,7 +38,7 @@ fn as_written<S: WireSymbol>(records: &[u8], count: u32, root: u32, work: &mut [
     requires few { count ≤ 1000000 }
     requires room { 2 * count + 256 ≤ length work.old }
     ensures good { result ≡ true → root ≤ count + 1 }
-    ensures answer { (ds : List (Row S)) → ReadAs (travel S.WireSymbol.kind S.WireSymbol.width S.WireSymbol.bytes S.WireSymbol.reads) records.now ds → length ds ≡ count → (result ≡ true) ↔ InOrder S.Symbol.before ds root }
+    ensures answer { (ds : List (Row S)) → ReadAs S.WireSymbol.travel records.now ds → length ds ≡ count → (result ≡ true) ↔ InOrder S.Symbol.before ds root }
 {
     if root > count + 1 {
         return false;
@@ -60,7 +60,7 @@ fn lay_checked<S: WireSymbol, B: Shelf<S>>(
     requires long { length records.now ≤ 16000000 }
     requires few { count ≤ 1000000 }
     requires room { 2 * count + 256 ≤ length work.old }
-    ensures answer { B.Shelf.ready shelf.old → (ds : List (Row S)) → ReadAs (travel S.WireSymbol.kind S.WireSymbol.width S.WireSymbol.bytes S.WireSymbol.reads) records.now ds → Formed S.Symbol.before ds → length ds ≡ count →
+    ensures answer { B.Shelf.ready shelf.old → (ds : List (Row S)) → ReadAs S.WireSymbol.travel records.now ds → Formed S.Symbol.before ds → length ds ≡ count →
         Sound S.Symbol.before (B.Shelf.vertices shelf.old) → Ends S.Symbol.before (B.Shelf.capacity shelf.old) (B.Shelf.vertices shelf.old) (InOrder S.Symbol.before ds root) (codes ds root) result (B.Shelf.vertices shelf.new) }
     ensures ready { B.Shelf.ready shelf.old → B.Shelf.ready shelf.new }
     ensures size { B.Shelf.capacity shelf.new ≡ B.Shelf.capacity shelf.old }
@@ -84,7 +84,7 @@ pub fn receive<S: WireSymbol, B: Shelf<S>>(
     work: &mut [Place],
 ) -> Result<u32, ReceiveFault>
     requires { 2 * B.Shelf.capacity shelf.old + 256 ≤ length work.old }
-    ensures answer { B.Shelf.ready shelf.old → Sound S.Symbol.before (B.Shelf.vertices shelf.old) → Receives S.Symbol.before (travel S.WireSymbol.kind S.WireSymbol.width S.WireSymbol.bytes S.WireSymbol.reads) (B.Shelf.capacity shelf.old) (B.Shelf.vertices shelf.old) bytes.now result (B.Shelf.vertices shelf.new) }
+    ensures answer { B.Shelf.ready shelf.old → Sound S.Symbol.before (B.Shelf.vertices shelf.old) → Receives S.Symbol.before S.WireSymbol.travel (B.Shelf.capacity shelf.old) (B.Shelf.vertices shelf.old) bytes.now result (B.Shelf.vertices shelf.new) }
     ensures ready { B.Shelf.ready shelf.old → B.Shelf.ready shelf.new }
     ensures size { B.Shelf.capacity shelf.new ≡ B.Shelf.capacity shelf.old }
 {

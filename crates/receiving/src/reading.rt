@@ -14,8 +14,8 @@ use wire::records::read_record;
 // The vertex in record k.
 pub fn read_at<S: WireSymbol>(records: &[u8], k: u32) -> Result<Vertex<S>, RecordFault>
     requires few { k ≤ 16000000 }
-    requires there { (k + 1) * (S.WireSymbol.width + 8) ≤ length records.now }
-    ensures { result ≡ record_of (travel S.WireSymbol.kind S.WireSymbol.width S.WireSymbol.bytes S.WireSymbol.reads) (k + 2) (record_at S.WireSymbol.width records.now k) }
+    requires there { (k + 1) * (S.WireSymbol.travel.width + 8) ≤ length records.now }
+    ensures { result ≡ record_of S.WireSymbol.travel (k + 2) (record_at S.WireSymbol.travel.width records.now k) }
 {
     let size = S::width() + 8;
     let start = k as usize * size;
@@ -27,7 +27,7 @@ pub fn read_at<S: WireSymbol>(records: &[u8], k: u32) -> Result<Vertex<S>, Recor
 pub fn vertex_at<S: WireSymbol>(records: &[u8], n: u32) -> Option<Vertex<S>>
     requires { length records.now ≤ 16000000 }
     ensures below { LinksFall n result }
-    ensures value { (ds : List (Row S)) → ReadAs (travel S.WireSymbol.kind S.WireSymbol.width S.WireSymbol.bytes S.WireSymbol.reads) records.now ds → result ≡ look ds n }
+    ensures value { (ds : List (Row S)) → ReadAs S.WireSymbol.travel records.now ds → result ≡ look ds n }
 {
     if n < 2 {
         return None;

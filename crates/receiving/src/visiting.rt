@@ -74,7 +74,7 @@ fn step<S: WireSymbol>(records: &[u8], work: &mut [Place], walk: Walk) -> Option
     requires fits { Fits work.old walk.height }
     requires some { 0 < walk.height }
     ensures down { ComesDown work.old walk work.new result }
-    ensures leads { (ds : List (Row S)) (k : ℕ) → ReadAs (travel S.WireSymbol.kind S.WireSymbol.width S.WireSymbol.bytes S.WireSymbol.reads) records.now ds → Leads ds k work.old walk work.new result }
+    ensures leads { (ds : List (Row S)) (k : ℕ) → ReadAs S.WireSymbol.travel records.now ds → Leads ds k work.old walk work.new result }
 {
     let Walk { height, passed } = walk;
     let top = height - 1;
@@ -115,7 +115,7 @@ pub fn in_order<S: WireSymbol>(records: &[u8], count: u32, root: u32, work: &mut
     requires long { length records.now ≤ 16000000 }
     requires some { 1 ≤ length work.old }
     requires room { 2 * root ≤ length work.old }
-    ensures { (ds : List (Row S)) → ReadAs (travel S.WireSymbol.kind S.WireSymbol.width S.WireSymbol.bytes S.WireSymbol.reads) records.now ds → (result ≡ true) ↔ Visits ds 0 root count }
+    ensures { (ds : List (Row S)) → ReadAs S.WireSymbol.travel records.now ds → (result ≡ true) ↔ Visits ds 0 root count }
 {
     write_task(work, 0, Task::Visit(root));
     let mut walk = Walk {

@@ -35,7 +35,7 @@ wrote before capacity travel s list out work n exit w =
     let long : length bytes ≡ n = let e = a.1.0 in cc in
     (good, ap (take n) a.1.1 ∙ take_at bytes (drop (length bytes) out) n long)
 
-module _ {S : Type 0} (before : S → S → Bool) (order : Order before) (travel : Travel S) (laws : WireLaws travel.kind travel.width travel.bytes travel.reads) where
+module _ {S : Type 0} (before : S → S → Bool) (order : Order before) (travel : Travel S) (laws : WireLaws travel) where
   pub written_alike : WrittenAlike before travel
   written_alike capacity capacity' s s' run run' m n out out' work work' l l' exit exit' w w' =
       let a = wrote before capacity travel s m out work l exit w in

@@ -18,8 +18,8 @@ impl<S: WireSymbol, B: Shelf<S>, R: RecallTable> Store<S, B, R> {
     // the vertices reached. It shows the list and nothing of how it came about: two stores of this kind of symbol,
     // whatever their shelves, tables, capacities and runs, write equal bytes exactly for equal lists.
     pub fn write(&self, list: u32, out: &mut [u8], work: &mut [Place]) -> Result<usize, Fault>
-        ensures answer { Asks S.Symbol.before (B.Shelf.capacity self.now.shelf) (B.Shelf.ready self.now.shelf) (state (B.Shelf.vertices self.now.shelf) (R.RecallTable.table self.now.recall)) (Writes S.Symbol.before (B.Shelf.capacity self.now.shelf) (travel S.WireSymbol.kind S.WireSymbol.width S.WireSymbol.bytes S.WireSymbol.reads) (state (B.Shelf.vertices self.now.shelf) (R.RecallTable.table self.now.recall)) list out.old work.old result out.new) }
-        ensures alike { WrittenAlike S.Symbol.before (travel S.WireSymbol.kind S.WireSymbol.width S.WireSymbol.bytes S.WireSymbol.reads) }
+        ensures answer { Asks S.Symbol.before (B.Shelf.capacity self.now.shelf) (B.Shelf.ready self.now.shelf) (state (B.Shelf.vertices self.now.shelf) (R.RecallTable.table self.now.recall)) (Writes S.Symbol.before (B.Shelf.capacity self.now.shelf) S.WireSymbol.travel (state (B.Shelf.vertices self.now.shelf) (R.RecallTable.table self.now.recall)) list out.old work.old result out.new) }
+        ensures alike { WrittenAlike S.Symbol.before S.WireSymbol.travel }
     {
         self.check_list(0, list)?;
         self.check_work(work)?;

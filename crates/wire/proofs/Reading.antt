@@ -31,7 +31,7 @@ word_at front rest n i e small =
     let fourth : get_or (front ++ (be4 n ++ rest)) (i + 3) 0 ≡ n % 256 = ap (λ k. get_or (front ++ (be4 n ++ rest)) (k + 3) 0) (sym e) ∙ get_or-append-add front (be4 n ++ rest) 3 0 in
     (λ j. word_of (first j) (second j) (third j) (fourth j)) ∙ word_back n small
 
-module _ {S : Type 0} (before : S → S → Bool) (order : Order before) (t : Travel S) (laws : WireLaws t.kind t.width t.bytes t.reads) where
+module _ {S : Type 0} (before : S → S → Bool) (order : Order before) (t : Travel S) (laws : WireLaws t) where
   record_long : (v : Vertex S) → length (record_bytes t.bytes v) ≡ t.width + 8
   record_long v = length-append (t.bytes v.label) (be4 v.zero ++ be4 v.one) ∙ ap (λ n. n + 8) (laws.long v.label)
 

@@ -10,8 +10,8 @@ use symbols::{Symbol, WireSymbol};
 
 // The vertex `own`, from the bytes of its record.
 pub fn read_record<S: WireSymbol>(own: u32, bytes: &[u8]) -> Result<Vertex<S>, RecordFault>
-    requires { length bytes.now ≡ S.WireSymbol.width + 8 }
-    ensures { result ≡ record_of (travel S.WireSymbol.kind S.WireSymbol.width S.WireSymbol.bytes S.WireSymbol.reads) own bytes.now }
+    requires { length bytes.now ≡ S.WireSymbol.travel.width + 8 }
+    ensures { result ≡ record_of S.WireSymbol.travel own bytes.now }
 {
     let (label, links) = bytes.split_at(S::width());
     let label = S::read(label)?;
@@ -31,8 +31,8 @@ pub fn read_record<S: WireSymbol>(own: u32, bytes: &[u8]) -> Result<Vertex<S>, R
 
 // Whether a zero link is no vertex, or its record's label comes after this one.
 pub fn zero_label_after<S: WireSymbol>(label: S, zero: u32, records: &[u8]) -> bool
-    requires { (zero - 1) * (S.WireSymbol.width + 8) ≤ length records.now }
-    ensures { result ≡ zero_after S.Symbol.before (travel S.WireSymbol.kind S.WireSymbol.width S.WireSymbol.bytes S.WireSymbol.reads) records.now label zero }
+    requires { (zero - 1) * (S.WireSymbol.travel.width + 8) ≤ length records.now }
+    ensures { result ≡ zero_after S.Symbol.before S.WireSymbol.travel records.now label zero }
 {
     if zero < 2 {
         return true;
@@ -57,16 +57,14 @@ fn write_links(zero: u32, one: u32, out: &mut [u8])
 
 // Writes the record of a vertex to the start of `out`.
 pub fn write_record<S: WireSymbol>(v: &Vertex<S>, out: &mut [u8])
-    requires { S.WireSymbol.width + 8 ≤ length out.old }
-    ensures { out.new ≡ record_bytes S.WireSymbol.bytes v.now ++ drop (S.WireSymbol.width + 8) out.old }
+    requires { S.WireSymbol.travel.width + 8 ≤ length out.old }
+    ensures { out.new ≡ record_bytes S.WireSymbol.travel.bytes v.now ++ drop (S.WireSymbol.travel.width + 8) out.old }
 {
     v.label.write(out);
     write_links(v.zero, v.one, &mut out[S::width()..]);
 }
 
 // What is written of formed vertices reads back as those vertices.
-pub fn records_read_back<S: WireSymbol>() -> u8
-    ensures { RecordsBack S.Symbol.before (travel S.WireSymbol.kind S.WireSymbol.width S.WireSymbol.bytes S.WireSymbol.reads) }
-{
-    0
-}
+pub fn records_read_back<S: WireSymbol>()
+    ensures { RecordsBack S.Symbol.before S.WireSymbol.travel }
+{}

@@ -38,7 +38,7 @@ pub fn write<S: WireSymbol, B: Shelf<S>>(
     requires room { 2 * B.Shelf.capacity shelf.now + 256 ≤ length work.old }
     requires good { list ≤ length (B.Shelf.vertices shelf.now) + 1 }
     ensures kept { PastKept out.old result out.new }
-    ensures answer { Sound S.Symbol.before (B.Shelf.vertices shelf.now) → Writes (written S.Symbol.before (travel S.WireSymbol.kind S.WireSymbol.width S.WireSymbol.bytes S.WireSymbol.reads) (codes (B.Shelf.vertices shelf.now) list)) out.old result out.new }
+    ensures answer { Sound S.Symbol.before (B.Shelf.vertices shelf.now) → Writes (written S.Symbol.before S.WireSymbol.travel (codes (B.Shelf.vertices shelf.now) list)) out.old result out.new }
 {
     let used = shelf.used() as usize;
     let (seen, stack) = work.split_at_mut(used);

@@ -48,9 +48,9 @@ fn write_kth<S: WireSymbol, B: Shelf<S>>(
     requires short { length seen.now ≤ 1000000 }
     requires sparse { Sparse seen.now met }
     requires here { k < met }
-    requires room { 14 + met * (S.WireSymbol.width + 8) ≤ length out.old }
-    ensures kept { drop (14 + (k + 1) * (S.WireSymbol.width + 8)) out.new ≡ drop (14 + (k + 1) * (S.WireSymbol.width + 8)) out.old }
-    ensures value { Formed S.Symbol.before (B.Shelf.vertices shelf.now) → length seen.now ≡ length (B.Shelf.vertices shelf.now) → PutAt (B.Shelf.vertices shelf.now) seen.now met k S.WireSymbol.width S.WireSymbol.bytes out.old out.new }
+    requires room { 14 + met * (S.WireSymbol.travel.width + 8) ≤ length out.old }
+    ensures kept { drop (14 + (k + 1) * (S.WireSymbol.travel.width + 8)) out.new ≡ drop (14 + (k + 1) * (S.WireSymbol.travel.width + 8)) out.old }
+    ensures value { Formed S.Symbol.before (B.Shelf.vertices shelf.now) → length seen.now ≡ length (B.Shelf.vertices shelf.now) → PutAt (B.Shelf.vertices shelf.now) seen.now met k S.WireSymbol.travel.width S.WireSymbol.travel.bytes out.old out.new }
 {
     let size = S::width() + 8;
     let from = 14 + k as usize * size;
@@ -70,9 +70,9 @@ pub(crate) fn write_records<S: WireSymbol, B: Shelf<S>>(
     requires few { met ≤ length seen.now }
     requires short { length seen.now ≤ 1000000 }
     requires sparse { Sparse seen.now met }
-    requires room { 14 + met * (S.WireSymbol.width + 8) ≤ length out.old }
-    ensures kept { drop (14 + met * (S.WireSymbol.width + 8)) out.new ≡ drop (14 + met * (S.WireSymbol.width + 8)) out.old }
-    ensures value { Formed S.Symbol.before (B.Shelf.vertices shelf.now) → length seen.now ≡ length (B.Shelf.vertices shelf.now) → Filled (B.Shelf.vertices shelf.now) seen.now met met S.WireSymbol.width S.WireSymbol.bytes out.old out.new }
+    requires room { 14 + met * (S.WireSymbol.travel.width + 8) ≤ length out.old }
+    ensures kept { drop (14 + met * (S.WireSymbol.travel.width + 8)) out.new ≡ drop (14 + met * (S.WireSymbol.travel.width + 8)) out.old }
+    ensures value { Formed S.Symbol.before (B.Shelf.vertices shelf.now) → length seen.now ≡ length (B.Shelf.vertices shelf.now) → Filled (B.Shelf.vertices shelf.now) seen.now met met S.WireSymbol.travel.width S.WireSymbol.travel.bytes out.old out.new }
 {
     for k in 0..met {
         write_kth(shelf, seen, met, k, out);

@@ -9,7 +9,7 @@ use Rattle.receiving.proofs.receive.Goals as goal
 
 pub check_records-requires : goal.check_records-requires
 check_records-requires g c =
-    let w = g.S.WireSymbol in
+    let w = g.S.WireSymbol.travel in
     let H = head_right w.kind w.width c.capacity.result c.args.bytes.now c.in_ok-head.head c.in_ok-head.records.now (sym c.in_ok-head.ensures) in
     let f = head_few w.kind w.width c.capacity.result c.args.bytes.now c.in_ok-head.head c.in_ok-head.records.now H in
     let few = f.0 in
@@ -19,7 +19,7 @@ check_records-requires g c =
 
 pub lay_checked-requires : goal.lay_checked-requires
 lay_checked-requires g c =
-    let w = g.S.WireSymbol in
+    let w = g.S.WireSymbol.travel in
     let H = head_right w.kind w.width c.capacity.result c.args.bytes.now c.in_ok-head.head c.in_ok-head.records.now (sym c.in_ok-head.ensures) in
     let f = head_few w.kind w.width c.capacity.result c.args.bytes.now c.in_ok-head.head c.in_ok-head.records.now H in
     let few = f.0 in
@@ -33,7 +33,7 @@ pub returns : goal.returns
 returns g c =
     record {
       answer = λ ready sound.
-          let w = g.S.WireSymbol in
+          let w = g.S.WireSymbol.travel in
           let t = travel w.kind w.width w.bytes w.reads in
           let bs = c.args.bytes.now in
           let h = c.in_ok-head.head in

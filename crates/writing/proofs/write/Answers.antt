@@ -11,7 +11,7 @@ returns-then-out-whole g c =
     record {
       kept = refl;
       answer = λ sound.
-          too_short g.S.Symbol.before g.met.S.Symbol.ordered (travel g.S.WireSymbol.kind g.S.WireSymbol.width g.S.WireSymbol.bytes g.S.WireSymbol.reads) g.met.S.WireSymbol.wired.long
+          too_short g.S.Symbol.before g.met.S.Symbol.ordered g.S.WireSymbol.travel g.met.S.WireSymbol.wired.long
           vs sound seen c.walk-count.result c.walk-count.ensures.sparse.1 size c.args.list c.requires.good (c.walk-count.ensures.value sound)
           c.width.result c.args.out.now _ c.width.ensures c.if-out-whole.true;
     }
@@ -46,11 +46,11 @@ returns g c =
       kept =
           subst (λ w. drop (14 + c.walk-count.result * (w + 8)) c.write_records.new.out ≡ drop (14 + c.walk-count.result * (w + 8)) c.args.out.now) (sym same)
           (c.write_records.ensures.kept ∙
-          head_kept (c.walk-count.result * (g.S.WireSymbol.width + 8))
+          head_kept (c.walk-count.result * (g.S.WireSymbol.travel.width + 8))
           (record { whole = 14 + c.walk-count.result * (c.width.result + 8); version = 1; kind = c.kind.result; count = c.walk-count.result; root = c.new_link.result })
           c.args.out.now c.write_head.new.out c.write_head.ensures);
       answer = λ sound.
-          whole_written g.S.Symbol.before g.met.S.Symbol.ordered (travel g.S.WireSymbol.kind g.S.WireSymbol.width g.S.WireSymbol.bytes g.S.WireSymbol.reads) g.met.S.WireSymbol.wired.long
+          whole_written g.S.Symbol.before g.met.S.Symbol.ordered g.S.WireSymbol.travel g.met.S.WireSymbol.wired.long
           vs sound seen c.walk-count.result c.walk-count.ensures.sparse.1 size c.args.list c.requires.good (c.walk-count.ensures.value sound)
           c.width.result c.kind.result c.new_link.result c.args.out.now c.write_head.new.out c.write_records.new.out
           same c.kind.ensures c.new_link.ensures c.write_head.ensures (c.write_records.ensures.value sound.formed size);

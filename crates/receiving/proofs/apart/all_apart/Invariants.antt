@@ -7,5 +7,5 @@ use Rattle.receiving.proofs.apart.all_apart.Given as goal
 
 abbrev pub invariant-loop-k : goal.invariant-loop-k
 invariant-loop-k g l =
-    (ds : List (Vertex g.row.S.Denot)) → ReadAs (travel g.S.WireSymbol.kind g.S.WireSymbol.width g.S.WireSymbol.bytes g.S.WireSymbol.reads) l.records ds → length ds ≡ l.count →
+    (ds : List (Vertex g.row.S.Denot)) → ReadAs g.S.WireSymbol.travel l.records ds → length ds ≡ l.count →
     Table g.S.Symbol.scatter ds l.count l.k l.work × FirstApart ds l.k

@@ -9,7 +9,7 @@ use Rattle.receiving.proofs.apart.seen_before.Given as goal
 abbrev pub invariant-loop-link : goal.invariant-loop-link
 invariant-loop-link g l =
     (l.link ≤ l.k) ×
-    ((ds : List (Vertex g.row.S.Denot)) → ReadAs (travel g.S.WireSymbol.kind g.S.WireSymbol.width g.S.WireSymbol.bytes g.S.WireSymbol.reads) l.records ds →
+    ((ds : List (Vertex g.row.S.Denot)) → ReadAs g.S.WireSymbol.travel l.records ds →
     Table g.S.Symbol.scatter ds l.count l.k l.work → Searching g.S.Symbol.scatter ds l.count l.k l.vertex l.link)
 
 abbrev pub decreases-loop-link : goal.decreases-loop-link

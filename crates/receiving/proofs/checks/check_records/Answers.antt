@@ -7,7 +7,7 @@ loop-place-init g c = reading_none g.S.Symbol.before g.met.S.Symbol.ordered _ c.
 
 pub check_record-requires : goal.check_record-requires
 check_record-requires g c =
-    let m = mul-le-mul_right {m = c.loop-place.place + 1} {n = c.args.count} (g.S.WireSymbol.width + 8) (omega arith) in
+    let m = mul-le-mul_right {m = c.loop-place.place + 1} {n = c.args.count} (g.S.WireSymbol.travel.width + 8) (omega arith) in
     record { few = omega arith; there = omega arith }
 
 pub returns-in-Err : goal.returns-in-Err

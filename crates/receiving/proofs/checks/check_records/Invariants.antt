@@ -3,4 +3,4 @@ use Rattle.receiving.proofs.Records.{Reading}
 use Rattle.receiving.proofs.checks.check_records.Given as goal
 
 abbrev pub invariant-loop-place : goal.invariant-loop-place
-invariant-loop-place g l = Reading g.S.Symbol.before g.met.S.Symbol.ordered (travel g.S.WireSymbol.kind g.S.WireSymbol.width g.S.WireSymbol.bytes g.S.WireSymbol.reads) l.records l.count l.place
+invariant-loop-place g l = Reading g.S.Symbol.before g.met.S.Symbol.ordered g.S.WireSymbol.travel l.records l.count l.place

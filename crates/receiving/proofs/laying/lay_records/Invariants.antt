@@ -9,6 +9,6 @@ use Rattle.receiving.proofs.laying.lay_records.Given as goal
 abbrev pub invariant-loop-k : goal.invariant-loop-k
 invariant-loop-k g l =
     (g.B.Shelf.ready l.initial.shelf → g.B.Shelf.ready l.shelf) × (g.B.Shelf.capacity l.shelf ≡ g.B.Shelf.capacity l.initial.shelf) ×
-    (g.B.Shelf.ready l.initial.shelf → (ds : List (Vertex g.row.S.Denot)) → ReadAs (travel g.S.WireSymbol.kind g.S.WireSymbol.width g.S.WireSymbol.bytes g.S.WireSymbol.reads) l.records ds →
+    (g.B.Shelf.ready l.initial.shelf → (ds : List (Vertex g.row.S.Denot)) → ReadAs g.S.WireSymbol.travel l.records ds →
     Formed g.S.Symbol.before ds → length ds ≡ l.count → Sound g.S.Symbol.before (g.B.Shelf.vertices l.initial.shelf) →
     Laying g.S.Symbol.before ds (g.B.Shelf.vertices l.initial.shelf) l.k (g.B.Shelf.vertices l.shelf) l.work)

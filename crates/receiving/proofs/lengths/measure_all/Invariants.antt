@@ -8,5 +8,5 @@ use Rattle.receiving.proofs.lengths.measure_all.Given as goal
 
 abbrev pub invariant-loop-k : goal.invariant-loop-k
 invariant-loop-k g l =
-    (ds : List (Vertex g.row.S.Denot)) → ReadAs (travel g.S.WireSymbol.kind g.S.WireSymbol.width g.S.WireSymbol.bytes g.S.WireSymbol.reads) l.records ds → Formed g.S.Symbol.before ds → length ds ≡ l.count →
+    (ds : List (Vertex g.row.S.Denot)) → ReadAs g.S.WireSymbol.travel l.records ds → Formed g.S.Symbol.before ds → length ds ≡ l.count →
     Measured ds l.k l.work

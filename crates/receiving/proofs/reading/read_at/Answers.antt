@@ -4,7 +4,7 @@ use Rattle.receiving.proofs.reading.read_at.Goals as goal
 
 pub returns : goal.returns
 returns g c =
-    let w = g.S.WireSymbol in
+    let w = g.S.WireSymbol.travel in
     let k = c.args.k in
     let bs = c.args.records.now in
     let size = c.width-size.result + 8 in

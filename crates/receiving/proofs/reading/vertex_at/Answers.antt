@@ -24,7 +24,7 @@ read_at-requires g c =
 
 pub returns-in-Ok : goal.returns-in-Ok
 returns-in-Ok g c =
-    let w = g.S.WireSymbol in
+    let w = g.S.WireSymbol.travel in
     let t = travel w.kind w.width w.bytes w.reads in
     let l = right_links t (c.args.n - 2 + 2) _ c.in-Ok.vertex (sym c.in-Ok.ensures) in
     let lz = l.zero_below in
@@ -40,7 +40,7 @@ returns-in-Ok g c =
 
 pub returns-in-Err : goal.returns-in-Err
 returns-in-Err g c =
-    let w = g.S.WireSymbol in
+    let w = g.S.WireSymbol.travel in
     let t = travel w.kind w.width w.bytes w.reads in
     let h : (c.args.n - 2 + 1) * (c.width.result + 8) ≤ length c.args.records.now = omega arith in
     record {

@@ -10,7 +10,7 @@ use Rattle.receiving.proofs.visiting.in_order.Given as goal
 abbrev pub invariant-loop-walk : goal.invariant-loop-walk
 invariant-loop-walk g l =
     Fits l.work l.walk.height ×
-    ((ds : List (Vertex g.row.S.Denot)) → ReadAs (travel g.S.WireSymbol.kind g.S.WireSymbol.width g.S.WireSymbol.bytes g.S.WireSymbol.reads) l.records ds →
+    ((ds : List (Vertex g.row.S.Denot)) → ReadAs g.S.WireSymbol.travel l.records ds →
     Visits ds 0 l.root l.count ↔ Rest ds l.count l.work l.walk.height l.walk.passed)
 
 abbrev pub decreases-loop-walk : goal.decreases-loop-walk

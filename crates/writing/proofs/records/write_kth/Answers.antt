@@ -12,10 +12,10 @@ slice_bounds-write_record-end g c =
 pub returns : goal.returns
 returns g c =
     let w = c.width-size.result in
-    let width = g.S.WireSymbol.width in
+    let width = g.S.WireSymbol.travel.width in
     let from = 14 + c.args.k * (c.width-size.result + 8) in
     let part = take (from + (w + 8) - from) (drop from c.args.out.now) in
-    let bytes = g.S.WireSymbol.bytes in
+    let bytes = g.S.WireSymbol.travel.bytes in
     let rec = record_bytes bytes c.in-Some.vertex in
     let same = c.width-size.ensures in
     let short : length part ≤ width + 8 = omega (arith, length-take (from + (w + 8) - from) (drop from c.args.out.now), same) in

@@ -13,7 +13,7 @@ returns-in-Ok g c =
           let list = passed _ _ c.in_ok-check_list.ensures in
           let work = passed _ _ c.in_ok-check_work.ensures in
           let stands = run_stands g.S.Symbol.before g.met.S.Symbol.ordered _ t st.run in
-          writes_ok g.S.Symbol.before (g.B.Shelf.capacity c.args.self.now.shelf) (travel g.S.WireSymbol.kind g.S.WireSymbol.width g.S.WireSymbol.bytes g.S.WireSymbol.reads)
+          writes_ok g.S.Symbol.before (g.B.Shelf.capacity c.args.self.now.shelf) g.S.WireSymbol.travel
           (state (g.B.Shelf.vertices c.args.self.now.shelf) (g.R.RecallTable.table c.args.self.now.recall))
           c.args.list c.args.out.now c.write.new.out c.args.work.now (λ behind. list.1 _ ∙ work.1 behind) c.in-Ok.length (c.in-Ok.ensures.answer stands.sound) c.write.auto.out;
       alike = written_alike g.S.Symbol.before g.met.S.Symbol.ordered _ g.met.S.WireSymbol.wired;
@@ -26,7 +26,7 @@ returns-in-Err g c =
           let list = passed _ _ c.in_ok-check_list.ensures in
           let work = passed _ _ c.in_ok-check_work.ensures in
           let stands = run_stands g.S.Symbol.before g.met.S.Symbol.ordered _ t st.run in
-          writes_not g.S.Symbol.before (g.B.Shelf.capacity c.args.self.now.shelf) (travel g.S.WireSymbol.kind g.S.WireSymbol.width g.S.WireSymbol.bytes g.S.WireSymbol.reads)
+          writes_not g.S.Symbol.before (g.B.Shelf.capacity c.args.self.now.shelf) g.S.WireSymbol.travel
           (state (g.B.Shelf.vertices c.args.self.now.shelf) (g.R.RecallTable.table c.args.self.now.recall))
           c.args.list c.args.out.now c.write.new.out c.args.work.now (λ behind. list.1 _ ∙ work.1 behind) _ (c.in-Err.ensures.answer stands.sound);
       alike = written_alike g.S.Symbol.before g.met.S.Symbol.ordered _ g.met.S.WireSymbol.wired;
