@@ -18,7 +18,7 @@ use symbols::Symbol;
 
 // What is done to a list with a code.
 #[derive(Clone, Copy)]
-enum Change {
+pub enum Change {
     Add,
     Remove,
 }
@@ -163,7 +163,7 @@ fn rebuild<S: Symbol, B: Shelf<S>>(
 }
 
 // The list changed by the code, laid down; a full shelf is left as it was.
-fn alter<S: Symbol, B: Shelf<S>>(
+pub fn alter<S: Symbol, B: Shelf<S>>(
     shelf: &mut B,
     change: Change,
     list: u32,
