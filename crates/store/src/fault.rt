@@ -1,9 +1,10 @@
 // Why a call of the store is refused.
 ghost use Rattle.std.specs.Prelude.{◌≡◌};
 ghost use Rattle.store.specs.Refusals.{refusal, from_pick};
-ghost use Rattle.store.specs.declared.fault.Fault.TheVariants.{ShelfFull as shelf_full, ShortOutput as short_output};
+ghost use Rattle.store.specs.declared.fault.Fault.TheVariants.{NoSuchRule as no_such_rule, ShelfFull as shelf_full, ShortOutput as short_output};
 
 use counting::picking::PickFault;
+use joining::rule::NoSuchRule;
 use memory::shelf::Full;
 use symbols::Refusal;
 use writing::ShortOutput;
@@ -36,6 +37,14 @@ impl From<PickFault> for Fault {
             PickFault::TooMany => Fault::TooManyCodes,
             PickFault::NoSuchCode => Fault::NoSuchCode,
         }
+    }
+}
+
+impl From<NoSuchRule> for Fault {
+    ghost from_gives = { λ _ r. r ≡ no_such_rule };
+
+    fn from(_: NoSuchRule) -> Fault {
+        Fault::NoSuchRule
     }
 }
 

@@ -8,7 +8,7 @@ use crate::fault::Fault;
 use crate::store::{Store, check_code};
 use joining::rule::Rule;
 use memory::recall::RecallTable;
-use memory::shelf::Shelf;
+use memory::shelf::{Full, Shelf};
 use memory::work::Place;
 use paths::changing::Change;
 use symbols::Symbol;
@@ -30,9 +30,9 @@ impl<S: Symbol, B: Shelf<S>, R: RecallTable> Store<S, B, R> {
         self.check_work(work)?;
         match paths::changing::alter(&mut self.shelf, change, list, code, work) {
             Ok(n) => Ok(n),
-            Err(full) => {
+            Err(Full) => {
                 self.recall.forget();
-                Err(Fault::from(full))
+                Err(Fault::ShelfFull)
             }
         }
     }
@@ -68,9 +68,7 @@ impl<S: Symbol, B: Shelf<S>, R: RecallTable> Store<S, B, R> {
     {
         self.check_list(0, first)?;
         self.check_list(1, second)?;
-        let Some(rule) = Rule::from_number(rule) else {
-            return Err(Fault::NoSuchRule);
-        };
+        let rule = Rule::try_from(rule)?;
         self.check_work(work)?;
         Ok(joining::join(&mut self.shelf, &mut self.recall, rule, first, second, work)?)
     }

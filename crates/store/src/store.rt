@@ -55,14 +55,16 @@ impl<S: Symbol, B: Shelf<S>, R: RecallTable> Store<S, B, R> {
 
     // How many vertices there may be.
     pub fn capacity(&self) -> u32
-        ensures { result ≡ self.now.capacity }
+        ensures value { result ≡ self.now.capacity }
+        ensures few { result ≤ 1000000 }
     {
         self.shelf.capacity()
     }
 
     // How many vertices there are.
     pub fn used(&self) -> u32
-        ensures { result ≡ length self.now.vertices }
+        ensures value { result ≡ length self.now.vertices }
+        ensures few { result ≤ 1000000 }
     {
         self.shelf.used()
     }
@@ -71,7 +73,7 @@ impl<S: Symbol, B: Shelf<S>, R: RecallTable> Store<S, B, R> {
     pub(crate) fn check_list(&self, place: usize, list: u32) -> Result<(), Fault>
         ensures { result ≡ answered (check_lists self.now.vertices place (list ∷ []) None) tt }
     {
-        if list > self.shelf.used() + 1 {
+        if list > self.used() + 1 {
             return Err(Fault::NoSuchList { place });
         }
         Ok(())
@@ -81,7 +83,7 @@ impl<S: Symbol, B: Shelf<S>, R: RecallTable> Store<S, B, R> {
     pub(crate) fn check_work(&self, work: &[Place]) -> Result<(), Fault>
         ensures { result ≡ answered (check_work self.now.capacity work.now None) tt }
     {
-        if work.len() < 2 * self.shelf.capacity() as usize + 256 {
+        if work.len() < 2 * self.capacity() as usize + 256 {
             return Err(Fault::LittleWork);
         }
         Ok(())

@@ -6,8 +6,8 @@ use Rattle.store.proofs.Runs.{run_stands}
 use Rattle.store.proofs.Stepping.{changing}
 use Rattle.store.proofs.store.Store.change.Goals as goal
 
-pub invariant_of-self-in-Ok : goal.invariant_of-self-in-Ok
-invariant_of-self-in-Ok g c travel =
+pub invariant_of-self : goal.invariant_of-self
+invariant_of-self g c travel =
     let list = passed _ _ (rw (← c.self.view_is) at c.in_ok-check_list.ensures) in
     let code = passed _ _ c.in_ok-check_code.ensures in
     let work = passed _ _ (rw (← c.self.view_is) at c.in_ok-check_work.ensures) in
