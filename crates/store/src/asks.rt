@@ -2,6 +2,7 @@
 ghost use Rattle.std.specs.Prelude.{◌≡◌, ℕ, ◌+◌, ◌<◌, ◌≤◌, Bool, length, Option};
 ghost use Rattle.symbols.specs.Wire.{Travel};
 ghost use Rattle.store.specs.State.{seen};
+ghost use Rattle.store.specs.Run.{Run, NumbersAreLists, NoneSmaller};
 ghost use Rattle.store.specs.Calls.{Looks, Holds, Unders, CountsCodes, CountsVertices, Picks};
 
 use crate::fault::Fault;
@@ -12,9 +13,12 @@ use memory::work::Place;
 use symbols::Symbol;
 
 impl<S: Symbol, B: Shelf<S>, R: RecallTable> Store<S, B, R> {
-    // The label, the zero link and the one link of a number from 2 to used + 1. Never refused.
+    // The label, the zero link and the one link of a number from 2 to used + 1. Never refused. What is read so are the
+    // vertices of a store that a run has led to: in them a list's number is the list.
     pub fn look(&self, n: u32) -> Option<(S, u32, u32)>
-        ensures { Looks S.Symbol.before self.now.capacity (seen R.RecallTable.table self.now) n result }
+        ensures answer { Looks S.Symbol.before self.now.capacity (seen R.RecallTable.table self.now) n result }
+        ensures run { (travel : Option (Travel S)) → Run S.Symbol.before travel self.now.capacity (seen R.RecallTable.table self.now) }
+        ensures lists { NumbersAreLists self.now.vertices × NoneSmaller S.Symbol.before self.now.vertices }
     {
         self.shelf.look(n)
     }

@@ -43,24 +43,24 @@ impl From<PickFault> for Fault {
 impl From<NoSuchRule> for Fault {
     ghost from_gives = { λ _ r. r ≡ no_such_rule };
 
-    fn from(_: NoSuchRule) -> Fault {
-        Fault::NoSuchRule
+    fn from(_: NoSuchRule) -> Self {
+        Self::NoSuchRule
     }
 }
 
 impl From<Full> for Fault {
     ghost from_gives = { λ _ r. r ≡ shelf_full };
 
-    fn from(_: Full) -> Fault {
-        Fault::ShelfFull
+    fn from(_: Full) -> Self {
+        Self::ShelfFull
     }
 }
 
 impl From<ShortOutput> for Fault {
     ghost from_gives = { λ _ r. r ≡ short_output };
 
-    fn from(_: ShortOutput) -> Fault {
-        Fault::ShortOutput
+    fn from(_: ShortOutput) -> Self {
+        Self::ShortOutput
     }
 }
 
