@@ -5,4 +5,5 @@ pub mod marks;
 pub mod reading;
 pub mod recall;
 pub mod shelf;
+pub mod stack;
 pub mod work;

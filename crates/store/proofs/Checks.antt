@@ -1,8 +1,11 @@
 -- Checks that pass, and the refusal of one that fails.
+use Rattle.std.specs.Prelude.{IfSome}
+use Rattle.std.specs.Option.{ok_or}
 use Rattle.std.proofs.Common.{◌≡◌, ℕ, ◌+◌, ◌^◌, ◌<◌, ◌≤◌, Bool, true, false, ltb, leb, List, length, Some, None, Ok, Err, Option, Result, sym, refl, ap, ◌∙◌, arith}
 use Rattle.std.proofs.lemmas.Bool.{ltb-false, le-ltb, lt-leb, le-leb}
 use Rattle.ledger.specs.declared.Vertex.{Vertex}
 use Rattle.ledger.specs.Diagrams.{Good}
+use Rattle.counting.specs.Tallies.{Counted}
 use Rattle.store.specs.declared.fault.Fault.{Fault}
 use Rattle.store.specs.State.{check, answered, Checked}
 
@@ -55,3 +58,9 @@ refuses A (Some f) fault same then e t = (let p : f ≡ fault = cc in ap Err (sy
 -- a rule from 0 to 7
 pub rule_passes : (rule : ℕ) (fault : Fault) (behind : Option Fault) → rule ≤ 7 → check (ltb 7 rule) fault behind ≡ behind
 rule_passes rule fault behind h = ap (λ b. check b fault behind) (le-ltb 7 rule h)
+
+-- how many codes there are, or that they are too many
+pub counted : (faults : Option Fault → Option Fault) (n : ℕ) (o : Option ℕ) (fault : Fault) → ((behind : Option Fault) → faults behind ≡ behind) → IfSome o (λ c. c < 2 ^ 64) → Counted n o →
+    ok_or o fault ≡ answered (faults (check (leb (2 ^ 64) n) fault None)) n
+counted faults n (Some c) fault through small e = counted_few faults n c fault through e small
+counted faults n None fault through small e = counted_many faults n fault through e

@@ -12,6 +12,8 @@ use Rattle.ledger.specs.Ordered.{ordered}
 use Rattle.ledger.specs.Gather.{gather, renumber, Keeps}
 use Rattle.memory.specs.declared.recall.Question.{Question}
 use Rattle.memory.specs.declared.work.Place.{Place}
+use Rattle.paths.specs.Changed.{changed}
+use Rattle.paths.specs.declared.changing.Change.{Change}
 use Rattle.joining.specs.Recalled.{RightEntry}
 use Rattle.wire.specs.Written.{written}
 use Rattle.store.specs.declared.fault.Fault.{Fault}
@@ -27,6 +29,11 @@ module _ {S : Type 0} (before : S → S → Bool) (capacity : ℕ) where
 
   abbrev pub change_checks : State S → ℕ → List S → List Place → Option Fault
   change_checks s list code work = check_lists s.vertices 0 (list ∷ []) (check_code code (check_work capacity work None))
+
+  -- the list that a change by a code makes of it, laid down; its number
+  abbrev pub Changes : Change → State S → ℕ → List S → List Place → Result ℕ Fault → State S → Type 0
+  Changes change s list code work r s' =
+      Checked (change_checks s list code work) r (s' ≡ s) (LaidDown s (changed before change (codes s.vertices list) code) r s')
 
   -- the list with the code, laid down; its number
   abbrev pub Adds : State S → ℕ → List S → List Place → Result ℕ Fault → State S → Type 0

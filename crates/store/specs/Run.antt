@@ -41,11 +41,6 @@ pub record Stands {S : Type 0} (before : S → S → Bool) (travel : Option (Tra
   pub ready : Ready
   pub run : Run before travel capacity s
 
--- from wherever a run led to, the call takes this step, and the run goes on
-abbrev pub Goes : {S : Type 0} → (S → S → Bool) → ℕ → Type 0 → State S → Type 0 → State S → Type 0 → Type 0
-Goes {S} before capacity Ready s Ready' s' Step =
-    (travel : Option (Travel S)) → Stands before travel capacity Ready s → Step × Stands before travel capacity Ready' s'
-
 -- two good numbers are equal exactly when they have the same codes
 abbrev pub NumbersAreLists : {S : Type 0} → List (Vertex S) → Type 0
 NumbersAreLists vs = (m n : ℕ) → Good vs m → Good vs n → (m ≡ n) ↔ SameCodes vs m vs n
@@ -61,10 +56,6 @@ abbrev pub NumberIsList : {S : Type 0} → (S → S → Bool) → ℕ → Type 0
 NumberIsList {S} before capacity =
     (travel : Option (Travel S)) (s : State S) → Run before travel capacity s →
     NumbersAreLists s.vertices × NoneSmaller before s.vertices
-
--- from wherever a run led to, a call that only reads answers this
-abbrev pub Asks : {S : Type 0} → (S → S → Bool) → ℕ → Type 0 → State S → Type 0 → Type 0
-Asks {S} before capacity Ready s Answer = (travel : Option (Travel S)) → Stands before travel capacity Ready s → Answer
 
 -- a list written from one store and a list written from another, both accepted, give equal bytes, the whole dispatches
 -- compared, exactly when they have the same codes; whatever the stores' shelves, tables, capacities and runs

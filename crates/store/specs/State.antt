@@ -14,6 +14,16 @@ pub record State (S : Type 0) : Type 0 where
 abbrev pub state : {S : Type 0} → List (Vertex S) → (Question → Option ℕ) → State S
 state vs t = record { vertices = vs; table = t }
 
+-- what is seen of a store: how many vertices there may be, those that there are, and the recall table
+pub record Fitted (S R : Type 0) : Type 0 where
+  pub capacity : ℕ
+  pub vertices : List (Vertex S)
+  pub recall : R
+
+-- its state, where `table` reads a recall table
+abbrev pub seen : {S R : Type 0} → (R → Question → Option ℕ) → Fitted S R → State S
+seen table f = state f.vertices (table f.recall)
+
 -- no question has an entry
 abbrev pub Forgotten : (Question → Option ℕ) → Type 0
 Forgotten table = (q : Question) → table q ≡ None

@@ -1,9 +1,13 @@
 // Why a call of the store is refused.
 ghost use Rattle.std.specs.Prelude.{◌≡◌};
 ghost use Rattle.store.specs.Refusals.{refusal, from_pick};
+ghost use Rattle.store.specs.declared.fault.Fault.TheVariants.{NoSuchRule as no_such_rule, ShelfFull as shelf_full, ShortOutput as short_output};
 
 use counting::picking::PickFault;
+use joining::rule::NoSuchRule;
+use memory::shelf::Full;
 use symbols::Refusal;
+use writing::ShortOutput;
 
 #[derive(Clone, Copy, Debug, PartialEq, Eq)]
 pub enum Fault {
@@ -36,11 +40,35 @@ impl From<PickFault> for Fault {
     }
 }
 
-impl Fault {
-    pub fn refusal(self) -> Refusal
-        ensures { result ≡ refusal self }
-    {
-        let (number, detail) = match self {
+impl From<NoSuchRule> for Fault {
+    ghost from_gives = { λ _ r. r ≡ no_such_rule };
+
+    fn from(_: NoSuchRule) -> Self {
+        Self::NoSuchRule
+    }
+}
+
+impl From<Full> for Fault {
+    ghost from_gives = { λ _ r. r ≡ shelf_full };
+
+    fn from(_: Full) -> Self {
+        Self::ShelfFull
+    }
+}
+
+impl From<ShortOutput> for Fault {
+    ghost from_gives = { λ _ r. r ≡ short_output };
+
+    fn from(_: ShortOutput) -> Self {
+        Self::ShortOutput
+    }
+}
+
+impl From<Fault> for Refusal {
+    ghost from_gives = { λ fault r. r ≡ refusal fault };
+
+    fn from(fault: Fault) -> Refusal {
+        let (number, detail) = match fault {
             Fault::NoSuchList { place } => (2, place),
             Fault::CodeTooLong => (4, 0),
             Fault::NoSuchRule => (5, 0),

@@ -1,9 +1,8 @@
 // The calls that lay a list down. Each says its list as a set, which refusal comes first, and that a refusal leaves the
 // vertices as they were.
 ghost use Rattle.std.specs.Prelude.{◌≡◌, ℕ, ◌+◌, ◌*◌, ◌<◌, ◌≤◌, Bool, length};
-ghost use Rattle.store.specs.State.{state};
-ghost use Rattle.store.specs.Calls.{Adds, Removes, Joins};
-ghost use Rattle.store.specs.Run.{Goes};
+ghost use Rattle.store.specs.State.{seen};
+ghost use Rattle.store.specs.Calls.{Adds, Changes, Removes, Joins};
 
 use crate::fault::Fault;
 use crate::store::{Store, check_code};
@@ -11,18 +10,25 @@ use joining::rule::Rule;
 use memory::recall::RecallTable;
 use memory::shelf::{Full, Shelf};
 use memory::work::Place;
+use paths::changing::Change;
 use symbols::Symbol;
 
 impl<S: Symbol, B: Shelf<S>, R: RecallTable> Store<S, B, R> {
-    // The list with the code, laid down; its number. Refused 2, 4, 3, 9. Time: the path that is copied.
-    pub fn add(&mut self, list: u32, code: &[S], work: &mut [Place]) -> Result<u32, Fault>
-        ensures answer { Goes S.Symbol.before (B.Shelf.capacity self.old.shelf) (B.Shelf.ready self.old.shelf) (state (B.Shelf.vertices self.old.shelf) (R.RecallTable.table self.old.recall)) (B.Shelf.ready self.new.shelf) (state (B.Shelf.vertices self.new.shelf) (R.RecallTable.table self.new.recall)) (Adds S.Symbol.before (B.Shelf.capacity self.old.shelf) (state (B.Shelf.vertices self.old.shelf) (R.RecallTable.table self.old.recall)) list code.now work.old result (state (B.Shelf.vertices self.new.shelf) (R.RecallTable.table self.new.recall))) }
-        ensures size { B.Shelf.capacity self.new.shelf ≡ B.Shelf.capacity self.old.shelf }
+    // The list that a change makes of this one, laid down; its number. Where it finds no place, the table is forgotten.
+    fn change(
+        &mut self,
+        change: Change,
+        list: u32,
+        code: &[S],
+        work: &mut [Place],
+    ) -> Result<u32, Fault>
+        ensures answer { Changes S.Symbol.before self.old.capacity change (seen R.RecallTable.table self.old) list code.now work.old result (seen R.RecallTable.table self.new) }
+        ensures size { self.new.capacity ≡ self.old.capacity }
     {
         self.check_list(0, list)?;
         check_code(code)?;
         self.check_work(work)?;
-        match paths::changing::add(&mut self.shelf, list, code, work) {
+        match paths::changing::alter(&mut self.shelf, change, list, code, work) {
             Ok(n) => Ok(n),
             Err(Full) => {
                 self.recall.forget();
@@ -31,21 +37,20 @@ impl<S: Symbol, B: Shelf<S>, R: RecallTable> Store<S, B, R> {
         }
     }
 
+    // The list with the code, laid down; its number. Refused 2, 4, 3, 9. Time: the path that is copied.
+    pub fn add(&mut self, list: u32, code: &[S], work: &mut [Place]) -> Result<u32, Fault>
+        ensures answer { Adds S.Symbol.before self.old.capacity (seen R.RecallTable.table self.old) list code.now work.old result (seen R.RecallTable.table self.new) }
+        ensures size { self.new.capacity ≡ self.old.capacity }
+    {
+        self.change(Change::Add, list, code, work)
+    }
+
     // The list without the code, laid down; its number. Refused 2, 4, 3, 9. Time: the path that is copied.
     pub fn remove(&mut self, list: u32, code: &[S], work: &mut [Place]) -> Result<u32, Fault>
-        ensures answer { Goes S.Symbol.before (B.Shelf.capacity self.old.shelf) (B.Shelf.ready self.old.shelf) (state (B.Shelf.vertices self.old.shelf) (R.RecallTable.table self.old.recall)) (B.Shelf.ready self.new.shelf) (state (B.Shelf.vertices self.new.shelf) (R.RecallTable.table self.new.recall)) (Removes S.Symbol.before (B.Shelf.capacity self.old.shelf) (state (B.Shelf.vertices self.old.shelf) (R.RecallTable.table self.old.recall)) list code.now work.old result (state (B.Shelf.vertices self.new.shelf) (R.RecallTable.table self.new.recall))) }
-        ensures size { B.Shelf.capacity self.new.shelf ≡ B.Shelf.capacity self.old.shelf }
+        ensures answer { Removes S.Symbol.before self.old.capacity (seen R.RecallTable.table self.old) list code.now work.old result (seen R.RecallTable.table self.new) }
+        ensures size { self.new.capacity ≡ self.old.capacity }
     {
-        self.check_list(0, list)?;
-        check_code(code)?;
-        self.check_work(work)?;
-        match paths::changing::remove(&mut self.shelf, list, code, work) {
-            Ok(n) => Ok(n),
-            Err(Full) => {
-                self.recall.forget();
-                Err(Fault::ShelfFull)
-            }
-        }
+        self.change(Change::Remove, list, code, work)
     }
 
     // The join of two lists by a rule, laid down; its number. The rule is a sum: 1 takes codes only in the first list, 2
@@ -58,18 +63,13 @@ impl<S: Symbol, B: Shelf<S>, R: RecallTable> Store<S, B, R> {
         second: u32,
         work: &mut [Place],
     ) -> Result<u32, Fault>
-        ensures answer { Goes S.Symbol.before (B.Shelf.capacity self.old.shelf) (B.Shelf.ready self.old.shelf) (state (B.Shelf.vertices self.old.shelf) (R.RecallTable.table self.old.recall)) (B.Shelf.ready self.new.shelf) (state (B.Shelf.vertices self.new.shelf) (R.RecallTable.table self.new.recall)) (Joins S.Symbol.before (B.Shelf.capacity self.old.shelf) (state (B.Shelf.vertices self.old.shelf) (R.RecallTable.table self.old.recall)) rule first second work.old result (state (B.Shelf.vertices self.new.shelf) (R.RecallTable.table self.new.recall))) }
-        ensures size { B.Shelf.capacity self.new.shelf ≡ B.Shelf.capacity self.old.shelf }
+        ensures answer { Joins S.Symbol.before self.old.capacity (seen R.RecallTable.table self.old) rule first second work.old result (seen R.RecallTable.table self.new) }
+        ensures size { self.new.capacity ≡ self.old.capacity }
     {
         self.check_list(0, first)?;
         self.check_list(1, second)?;
-        let Some(rule) = Rule::from_number(rule) else {
-            return Err(Fault::NoSuchRule);
-        };
+        let rule = Rule::try_from(rule)?;
         self.check_work(work)?;
-        match joining::join(&mut self.shelf, &mut self.recall, rule, first, second, work) {
-            Ok(n) => Ok(n),
-            Err(Full) => Err(Fault::ShelfFull),
-        }
+        Ok(joining::join(&mut self.shelf, &mut self.recall, rule, first, second, work)?)
     }
 }

@@ -1,9 +1,8 @@
 // The calls that only symbols that travel have.
 ghost use Rattle.std.specs.Prelude.{◌≡◌, ℕ, ◌+◌, ◌*◌, ◌<◌, ◌≤◌, length};
-ghost use Rattle.wire.specs.Records.{travel};
-ghost use Rattle.store.specs.State.{state};
+ghost use Rattle.store.specs.State.{seen};
 ghost use Rattle.store.specs.Calls.{Writes};
-ghost use Rattle.store.specs.Run.{Asks, WrittenAlike};
+ghost use Rattle.store.specs.Run.{WrittenAlike};
 
 use crate::fault::Fault;
 use crate::store::Store;
@@ -11,21 +10,17 @@ use memory::recall::RecallTable;
 use memory::shelf::Shelf;
 use memory::work::Place;
 use symbols::{Symbol, WireSymbol};
-use writing::ShortOutput;
 
 impl<S: WireSymbol, B: Shelf<S>, R: RecallTable> Store<S, B, R> {
     // The dispatch of the list at the start of `out`, and its length; bytes past it don't change. Refused 2, 3, 8. Time:
     // the vertices reached. It shows the list and nothing of how it came about: two stores of this kind of symbol,
     // whatever their shelves, tables, capacities and runs, write equal bytes exactly for equal lists.
     pub fn write(&self, list: u32, out: &mut [u8], work: &mut [Place]) -> Result<usize, Fault>
-        ensures answer { Asks S.Symbol.before (B.Shelf.capacity self.now.shelf) (B.Shelf.ready self.now.shelf) (state (B.Shelf.vertices self.now.shelf) (R.RecallTable.table self.now.recall)) (Writes S.Symbol.before (B.Shelf.capacity self.now.shelf) S.WireSymbol.travel (state (B.Shelf.vertices self.now.shelf) (R.RecallTable.table self.now.recall)) list out.old work.old result out.new) }
+        ensures answer { Writes S.Symbol.before self.now.capacity S.WireSymbol.travel (seen R.RecallTable.table self.now) list out.old work.old result out.new }
         ensures alike { WrittenAlike S.Symbol.before S.WireSymbol.travel }
     {
         self.check_list(0, list)?;
         self.check_work(work)?;
-        match writing::write(&self.shelf, list, out, work) {
-            Ok(length) => Ok(length),
-            Err(ShortOutput) => Err(Fault::ShortOutput),
-        }
+        Ok(writing::write(&self.shelf, list, out, work)?)
     }
 }

@@ -6,14 +6,14 @@ use Rattle.store.proofs.store.Store.check_keep.Goals as goal
 
 pub loop-place-preserved : goal.loop-place-preserved
 loop-place-preserved g c =
-    let good : get_or c.args.keep.now c.loop-place.place 0 ≤ length (g.B.Shelf.vertices c.args.self.now.shelf) + 1 = omega arith in
-    c.loop-place.invariant ∙ next_good (g.B.Shelf.vertices c.args.self.now.shelf) c.args.keep.now c.loop-place.place c.loop-place-test.true good
+    let good : get_or c.args.keep.now c.loop-place.place 0 ≤ length c.args.self.now.vertices + 1 = omega arith in
+    c.loop-place.invariant ∙ next_good c.args.self.now.vertices c.args.keep.now c.loop-place.place c.loop-place-test.true good
 
 pub returns-then-list-used : goal.returns-then-list-used
 returns-then-list-used g c =
-    let bad : length (g.B.Shelf.vertices c.args.self.now.shelf) + 1 < get_or c.args.keep.now c.loop-place.place 0 = omega arith in
-    sym (ap (λ (o : Option Fault). answered o tt) (c.loop-place.invariant ∙ next_bad (g.B.Shelf.vertices c.args.self.now.shelf) c.args.keep.now c.loop-place.place c.loop-place-test.true bad))
+    let bad : length c.args.self.now.vertices + 1 < get_or c.args.keep.now c.loop-place.place 0 = omega arith in
+    sym (ap (λ (o : Option Fault). answered o tt) (c.loop-place.invariant ∙ next_bad c.args.self.now.vertices c.args.keep.now c.loop-place.place c.loop-place-test.true bad))
 
 pub returns : goal.returns
 returns g c =
-    sym (ap (λ (o : Option Fault). answered o tt) (c.loop-place.invariant ∙ no_next (g.B.Shelf.vertices c.args.self.now.shelf) c.args.keep.now c.loop-place.place c.loop-place-test.false))
+    sym (ap (λ (o : Option Fault). answered o tt) (c.loop-place.invariant ∙ no_next c.args.self.now.vertices c.args.keep.now c.loop-place.place c.loop-place-test.false))

@@ -4,5 +4,5 @@ use Rattle.store.proofs.store.Store.check_keep.Given as goal
 
 abbrev pub invariant-loop-place : goal.invariant-loop-place
 invariant-loop-place g l =
-    check_lists (g.B.Shelf.vertices l.self.shelf) 0 l.keep None ≡
-    check_lists (g.B.Shelf.vertices l.self.shelf) l.place (drop l.place l.keep) None
+    check_lists l.self.vertices 0 l.keep None ≡
+    check_lists l.self.vertices l.place (drop l.place l.keep) None
