@@ -1,6 +1,7 @@
 -- The steps down a code's path, and the frames that they leave.
 use Rattle.std.proofs.Common.{◌≡◌, ℕ, ◌+◌, ◌<◌, ◌≤◌, Bool, true, false, cond, ◌≢◌, ◌⊎◌, List, [], ◌∷◌, length, get_or, drop, set, Some, None, sym, refl, ap, ◌∙◌, subst, inl, inr, add-one, arith}
-use Rattle.std.proofs.lemmas.List.{get_or-set_same, get_or-set_other, drop_more, drop_all}
+use mathlib.Core.Path.{subst⁻¹}
+use Rattle.std.proofs.lemmas.List.{drop_more, drop_all}
 use Rattle.std.proofs.lemmas.Option.{slice_get_read}
 use Rattle.std.specs.Option.{option_map}
 use Rattle.symbols.specs.Order.{Order, same_symbol}
@@ -16,7 +17,7 @@ use Rattle.paths.specs.declared.frames.Frame.{Frame}
 use Rattle.paths.specs.declared.frames.Frame.TheVariants.{Zero, One}
 use Rattle.paths.specs.Changed.{changed, end_number}
 use Rattle.paths.specs.Framed.{frame_in}
-use Rattle.paths.specs.Waiting.{Makes, no_place, Waits, Step, Stepped}
+use Rattle.paths.specs.Waiting.{Makes, Waits, Step, Stepped}
 use Rattle.paths.proofs.Seeing.{Seen, seen, unseen}
 use Rattle.paths.proofs.Leading.{differs, has_early, empty_end}
 use Rattle.paths.proofs.Along.{make_some, changed_past_end, changed_end_none, changed_end_blank, changed_past, changed_ahead, changed_in, changed_none, changed_blank}
@@ -99,10 +100,18 @@ module _ {S : Type 0} (before : S → S → Bool) (order : Order before) (vs : L
           past_vertex (omega arith) (rw (rest code spot x h e) (ap (λ q. cond q (has before (codes vs o) (drop (spot + 1) code)) (has before (codes vs z) (x ∷ drop (spot + 1) code))) (differs before order l x b)))
           (λ change. rw (rest code spot x h e) (changed_past before change l (codes vs z) (codes vs o) x (drop (spot + 1) code) b))
 
-      pub step_new : before l x ≡ false → before x l ≡ true → Step before vs code at spot (One at spot) 0 (spot + 1)
-      step_new b c =
+      -- of two symbols one at most comes before the other
+      not_back : before x l ≡ true → before l x ≡ false
+      not_back c = by (before l x) refl
+        where
+          by : (b : Bool) → before l x ≡ b → b ≡ false
+          by false e = refl
+          by true e = let t = order.transitive l x l e c in let i = order.irreflexive l in cc
+
+      pub step_new : before x l ≡ true → Step before vs code at spot (One at spot) 0 (spot + 1)
+      step_new c =
           new_vertex x h e (λ s g. ap (λ t. has before t (x ∷ drop (spot + 1) code)) (see s).is ∙ has_early before order (begun l (codes vs z) (codes vs o)) x (drop (spot + 1) code) (see s).proper c)
-          (λ s g change. rw (see s).is (changed_ahead before change l (codes vs z) (codes vs o) x (drop (spot + 1) code) b c))
+          (λ s g change. rw (see s).is (changed_ahead before change l (codes vs z) (codes vs o) x (drop (spot + 1) code) (not_back c) c))
 
       pub step_one : before l x ≡ false → before x l ≡ false → Step before vs code at spot (One z spot) o (spot + 1)
       step_one b c =
@@ -126,22 +135,8 @@ module _ {S : Type 0} (before : S → S → Bool) (order : Order before) (vs : L
                 );
           }
 
--- a place above the frames is of no matter
-waits_set : {S : Type 0} (before : S → S → Bool) (vs : List (Vertex S)) (code : List S) (work : List Place) (j : ℕ) (p : Place) (k : ℕ) (t whole : Codes S) →
-    k ≤ j → Waits before vs code work k t whole → Waits before vs code (set work j p) k t whole
-unfolding Waits
-waits_set before vs code work j p ℕ.zero t whole h w = w
-waits_set before vs code work j p (ℕ.suc k) t whole h w =
-    let other : k ≢ j = omega arith in
-    (w.0, subst (λ q. Makes vs code (frame_in q) t w.0) (sym (get_or-set_other work j k p no_place other)) w.1, w.2, waits_set before vs code work j p k w.0 whole (omega arith) w.3)
-
-pub waits_none : {S : Type 0} (before : S → S → Bool) (vs : List (Vertex S)) (code : List S) (work : List Place) (t : Codes S) → Waits before vs code work 0 t t
-unfolding Waits
-waits_none before vs code work t = refl
-
-pub waits_push : {S : Type 0} (before : S → S → Bool) (vs : List (Vertex S)) (code : List S) (work : List Place) (k : ℕ) (p : Place) (frame : Frame) (t u whole : Codes S) →
-    k < length work → frame_in p ≡ frame → Makes vs code frame t u → Proper before u → Waits before vs code work k u whole → Waits before vs code (set work k p) (k + 1) t whole
-unfolding Waits
-waits_push before vs code work k p frame t u whole h e m proper w =
-    rw add-one
-    (u, subst (λ f. Makes vs code f t u) (sym e ∙ ap frame_in (sym (get_or-set_same work k p no_place h))) m, proper, waits_set before vs code work k p k u whole (omega arith) w)
+-- a frame more
+pub waits_push : {S : Type 0} (before : S → S → Bool) (vs : List (Vertex S)) (code : List S) (p : Place) (ps qs : List Place) (frame : Frame) (t u whole : Codes S) →
+    qs ≡ p ∷ ps → frame_in p ≡ frame → Makes vs code frame t u → Proper before u → Waits before vs code ps u whole → Waits before vs code qs t whole
+waits_push before vs code p ps qs frame t u whole q e m proper w =
+    subst⁻¹ (λ (x : List Place). Waits before vs code x t whole) q (u, subst⁻¹ (λ f. Makes vs code f t u) e m, proper, w)

@@ -1,5 +1,5 @@
 -- The way back up the frames.
-use Rattle.std.proofs.Common.{◌≡◌, ℕ, ◌-◌, ◌<◌, ◌≤◌, Bool, true, false, ◌⊎◌, List, [], ◌∷◌, length, get_or, take, Ok, ap, ◌∙◌, subst, inl, inr, arith, length-append}
+use Rattle.std.proofs.Common.{◌≡◌, ℕ, ◌-◌, ◌<◌, ◌≤◌, Bool, true, false, ◌⊎◌, List, [], ◌∷◌, length, take, Ok, Err, Result, is_err, ap, ◌∙◌, subst, inl, inr, arith, length-append}
 use mathlib.Core.Path.{subst⁻¹}
 use Rattle.std.proofs.lemmas.List.{take-append-le, take_all}
 use Rattle.symbols.specs.Order.{Order}
@@ -16,24 +16,13 @@ use Rattle.ledger.proofs.Downs.{laid_is}
 use Rattle.memory.specs.declared.shelf.Full.{Full}
 use Rattle.memory.specs.declared.work.Place.{Place}
 use Rattle.paths.specs.declared.changing.Change.{Change}
+use Rattle.paths.specs.declared.changing.Change.TheVariants.{Add, Remove}
 use Rattle.paths.specs.declared.frames.Frame.{Frame}
 use Rattle.paths.specs.declared.frames.Frame.TheVariants.{Zero, One}
-use Rattle.paths.specs.Changed.{changed, as_it_is}
+use Rattle.paths.specs.Changed.{changed, as_it_is, end_number}
 use Rattle.paths.specs.Framed.{frame_in}
-use Rattle.paths.specs.Waiting.{Makes, no_place, Waits, Begins}
+use Rattle.paths.specs.Waiting.{Makes, Waits, Begins, Settled, Unwound}
 use Rattle.paths.proofs.Along.{unchanged}
-
-module _ {S : Type 0} (before : S → S → Bool) (vs : List (Vertex S)) (code : List S) (work : List Place) where
-  pub waits_pop : (k : ℕ) (t whole : Codes S) → 0 < k → Waits before vs code work k t whole →
-      (u : Codes S) × Makes vs code (frame_in (get_or work (k - 1) no_place)) t u × Proper before u × Waits before vs code work (k - 1) u whole
-  unfolding Waits
-  waits_pop ℕ.zero t whole h w = absurd (omega arith)
-  waits_pop (ℕ.suc k) t whole h w = let same : k ≡ ℕ.suc k - 1 = omega arith in subst (λ j. (u : Codes S) × Makes vs code (frame_in (get_or work j no_place)) t u × Proper before u × Waits before vs code work j u whole) same w
-
-  pub waits_done : (k : ℕ) (t whole : Codes S) → k ≤ 0 → Waits before vs code work k t whole → t ≡ whole
-  unfolding Waits
-  waits_done ℕ.zero t whole h w = w
-  waits_done (ℕ.suc k) t whole h w = absurd (omega arith)
 
 module _ {S : Type 0} (before : S → S → Bool) (order : Order before) where
   -- laying a list down appends what laying its outer list down appends, and then what its inner list does
@@ -66,13 +55,12 @@ module _ {S : Type 0} (before : S → S → Bool) (order : Order before) where
       by blank = around blank
       by (begun b y p) = around (begun b y p)
 
-  pub waits_longer : (vs : List (Vertex S)) → Sound before vs → (code : List S) (work : List Place) (k : ℕ) (t whole : Codes S) → Waits before vs code work k t whole →
+  pub waits_longer : (vs : List (Vertex S)) → Sound before vs → (code : List S) (ps : List Place) (t whole : Codes S) → Waits before vs code ps t whole →
       length (lay before (lists vs) t) ≤ length (lay before (lists vs) whole)
-  unfolding Waits
-  waits_longer vs s code work ℕ.zero t whole w = let l = ap (λ x. length (lay before (lists vs) x)) w in omega arith
-  waits_longer vs s code work (ℕ.suc k) t whole w =
-      let one = makes_longer vs s code (frame_in (get_or work k no_place)) t w.0 w.1 in
-      let all = waits_longer vs s code work k w.0 whole w.3 in
+  waits_longer vs s code [] t whole w = let l = ap (λ x. length (lay before (lists vs) x)) w in omega arith
+  waits_longer vs s code (p ∷ ps) t whole w =
+      let one = makes_longer vs s code (frame_in p) t w.0 w.1 in
+      let all = waits_longer vs s code ps w.0 whole w.3 in
       omega arith
 
   pub lays_ok : (vs : List (Vertex S)) (t : Codes S) (ws : List (Vertex S)) (n capacity : ℕ) → Laid before vs t ws n → length ws ≤ capacity → Lays {F = Full} before capacity vs t (Ok n) ws
@@ -81,6 +69,33 @@ module _ {S : Type 0} (before : S → S → Bool) (order : Order before) where
       let row = ap length l.row in
       let r = laid_is before order vs t ws n l in
       (omega (arith, P.long), r.0, r.1)
+
+  -- where a frame's list does not fit, nor does the whole
+  pub unwound_short : (vs : List (Vertex S)) → Sound before vs → (code : List S) (p : Place) (ps qs : List Place) → qs ≡ p ∷ ps → (t whole : Codes S) → Waits before vs code qs t whole →
+      (capacity : ℕ) (ws : List (Vertex S)) → ((u : Codes S) → Makes vs code (frame_in p) t u → Proper before u → (capacity < length (lay before (lists vs) u)) × Begins vs ws) →
+      (capacity < length (lay before (lists vs) whole)) × Begins vs ws
+  unwound_short vs s code p ps qs q t whole w capacity ws short =
+      let k = subst (λ (x : List Place). Waits before vs code x t whole) q w in
+      let h = short k.0 k.1 k.2 in
+      let l = waits_longer vs s code ps k.0 whole k.3 in
+      (omega (arith, h.0), h.1)
+
+  -- where all fits, the whole is laid down
+  all_fits : (vs : List (Vertex S)) (whole : Codes S) (capacity : ℕ) (r : Result ℕ Full) (ws : List (Vertex S)) → is_err r ≡ false → length ws ≤ capacity → Settled before capacity vs whole r ws →
+      Lays before capacity vs whole r ws
+  all_fits vs whole capacity (Ok n) ws ok h s = lays_ok vs whole ws n capacity s.0 h
+  all_fits vs whole capacity (Err e) ws ok h s = cc
+
+  end_good : (change : Change) (vs : List (Vertex S)) → Good vs (end_number change)
+  end_good Add vs = omega arith
+  end_good Remove vs = omega arith
+
+  pub unwound_lays : (vs : List (Vertex S)) → Sound before vs → (change : Change) (end : ℕ) → end ≡ end_number change → (code : List S) (ps : List Place) (whole : Codes S) →
+      Waits before vs code ps (codes vs (end_number change)) whole → (capacity : ℕ) (r : Result ℕ Full) (ws : List (Vertex S)) → is_err r ≡ false → length ws ≤ capacity →
+      Unwound before capacity code ps vs end r ws → Lays before capacity vs whole r ws
+  unwound_lays vs sound change end e code ps whole waits capacity r ws ok h u =
+      all_fits vs whole capacity r ws ok h
+      (u whole sound (subst⁻¹ (Good vs) e (end_good change vs)) (subst⁻¹ (λ (n : ℕ). Waits before vs code ps (codes vs n) whole) e waits))
 
   -- a code that is in already, or not in
   pub lays_as_it_is : (vs : List (Vertex S)) → Sound before vs → (n : ℕ) → Good vs n → (change : Change) (c : List S) (held : Bool) → held ≡ has before (codes vs n) c → as_it_is change held ≡ true →

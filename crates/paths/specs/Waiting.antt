@@ -1,11 +1,11 @@
 -- What frames wait for, on the way back up a code's path.
-use Rattle.std.specs.Prelude.{◌≡◌, ℕ, ◌+◌, ◌-◌, ◌<◌, ◌≤◌, Bool, List, ◌++◌, length, drop, Some, None, Ok, Err, Option, Result, ◌==◌, slice_index_or}
+use Rattle.std.specs.Prelude.{◌≡◌, ℕ, ◌+◌, ◌-◌, ◌<◌, ◌≤◌, Bool, List, [], ◌∷◌, ◌++◌, length, drop, Some, None, Ok, Err, Option, Result, ◌==◌}
 use Rattle.std.specs.List.{slice_get}
 use Rattle.ledger.specs.declared.Vertex.{Vertex}
 use Rattle.ledger.specs.Lists.{Codes, begun, Proper}
 use Rattle.ledger.specs.Diagrams.{look, Good, Sound}
 use Rattle.ledger.specs.Laid.{Laid}
-use Rattle.ledger.specs.Ledger.{lay, lists, codes, Lays}
+use Rattle.ledger.specs.Ledger.{lay, lists, codes}
 use Rattle.ledger.specs.Operations.{has, make}
 use Rattle.memory.specs.declared.work.Place.{Place}
 use Rattle.memory.specs.declared.shelf.Full.{Full}
@@ -20,14 +20,10 @@ abbrev pub Makes : {S : Type 0} → List (Vertex S) → List S → Frame → Cod
 Makes {S} vs code (Zero n) t u = (v : Vertex S) × (look vs n ≡ Some v) × (u ≡ begun v.label t (codes vs v.one))
 Makes {S} vs code (One n spot) t u = (s : S) × (slice_get code spot ≡ Some s) × Good vs n × (u ≡ make s (codes vs n) t)
 
-abbrev pub no_place : Place
-no_place = record { state = 0; list = 0; other = 0; number = 0; count = 0 }
-
--- the first k places of the work space make `whole` of the list t, the last of them first
-unfoldable pub Waits : {S : Type 0} → (S → S → Bool) → List (Vertex S) → List S → List Place → ℕ → Codes S → Codes S → Type 0
-Waits before vs code work ℕ.zero t whole = t ≡ whole
-Waits {S} before vs code work (ℕ.suc k) t whole =
-    (u : Codes S) × Makes vs code (frame_in (slice_index_or work k no_place)) t u × Proper before u × Waits before vs code work k u whole
+-- the frames, the top one first, make `whole` of the list t
+abbrev pub Waits : {S : Type 0} → (S → S → Bool) → List (Vertex S) → List S → List Place → Codes S → Codes S → Type 0
+Waits before vs code [] t whole = t ≡ whole
+Waits {S} before vs code (p ∷ ps) t whole = (u : Codes S) × Makes vs code (frame_in p) t u × Proper before u × Waits before vs code ps u whole
 
 -- a step down from `at`: the frame, where to go on and the symbols passed by then
 pub record Step {S : Type 0} (before : S → S → Bool) (vs : List (Vertex S)) (code : List S) (at spot : ℕ) (frame : Frame) (next then : ℕ) : Type 0 where
@@ -60,6 +56,6 @@ Resumed {S} before capacity code frame us n r ws =
     (vs : List (Vertex S)) (t u : Codes S) → Sound before vs → Begins vs us → Laid before vs t us n → Makes vs code frame t u → Proper before u → Settled before capacity vs u r ws
 
 -- all frames have
-abbrev pub Rebuilt : {S : Type 0} → (S → S → Bool) → ℕ → List S → List Place → ℕ → List (Vertex S) → ℕ → Result ℕ Full → List (Vertex S) → Type 0
-Rebuilt {S} before capacity code work height vs end r ws =
-    (whole : Codes S) → Sound before vs → Good vs end → Waits before vs code work height (codes vs end) whole → Lays before capacity vs whole r ws
+abbrev pub Unwound : {S : Type 0} → (S → S → Bool) → ℕ → List S → List Place → List (Vertex S) → ℕ → Result ℕ Full → List (Vertex S) → Type 0
+Unwound {S} before capacity code frames vs end r ws =
+    (whole : Codes S) → Sound before vs → Good vs end → Waits before vs code frames (codes vs end) whole → Settled before capacity vs whole r ws

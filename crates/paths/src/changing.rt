@@ -3,16 +3,17 @@
 // inner lists, so what is appended is what laying the list down appends, in its order. Down, a step costs one read of a
 // vertex; back up, at most one read and one search of the shelf. Whether there is anything to change is
 // known at the bottom, before the shelf is touched.
-ghost use Rattle.std.specs.Prelude.{◌≡◌, ◌+◌, ◌≤◌, length};
+ghost use Rattle.std.specs.Prelude.{◌≡◌, ◌+◌, ◌≤◌, [], length};
 ghost use Rattle.ledger.specs.Ledger.{codes, Lays};
 ghost use Rattle.ledger.specs.Operations.{has};
 ghost use Rattle.paths.specs.Asked.{WhenGood};
 ghost use Rattle.paths.specs.Changed.{changed, end_number, as_it_is};
-ghost use Rattle.paths.specs.Waiting.{Stepped, Waits, Resumed, Rebuilt};
+ghost use Rattle.paths.specs.Waiting.{Stepped, Waits, Resumed, Unwound};
 
 use crate::frames::Frame;
 use memory::reading::read_vertex;
 use memory::shelf::{Full, Shelf};
+use memory::stack::Stack;
 use memory::work::Place;
 use symbols::Symbol;
 
@@ -57,50 +58,32 @@ fn step<S: Symbol, B: Shelf<S>>(
     ensures { Stepped S.Symbol.before (B.Shelf.vertices shelf.now) code.now at spot result }
 {
     let Some((label, zero, one)) = read_vertex(shelf, at) else {
-        if spot >= code.len() {
-            return None;
-        }
+        code.get(spot)?;
         return Some((Frame::One { zero: at, spot }, 0, spot + 1));
     };
-    if spot >= code.len() {
-        return Some((Frame::Zero { vertex: at }, zero, spot));
+    match code.get(spot) {
+        Some(symbol) if symbol.before(label) => Some((Frame::One { zero: at, spot }, 0, spot + 1)),
+        Some(symbol) if !label.before(*symbol) => Some((Frame::One { zero, spot }, one, spot + 1)),
+        _ => Some((Frame::Zero { vertex: at }, zero, spot)),
     }
-    let symbol = code[spot];
-    if label.before(symbol) {
-        return Some((Frame::Zero { vertex: at }, zero, spot));
-    }
-    if symbol.before(label) {
-        return Some((Frame::One { zero: at, spot }, 0, spot + 1));
-    }
-    Some((Frame::One { zero, spot }, one, spot + 1))
 }
 
-// What a walk down leaves: so many frames, and whether the code is in the list.
-struct Descent {
-    height: usize,
-    held: bool,
-}
-
-// Walks down the code's path, a frame for each step. A path that leaves the vertices ends at terminal 0.
-fn descend<S: Symbol, B: Shelf<S>>(shelf: &B, list: u32, code: &[S], work: &mut [Place]) -> Descent
-    requires { list + length code.now ≤ length work.old }
-    ensures within { result.height ≤ length work.new }
-    ensures member { WhenGood S.Symbol.before (B.Shelf.vertices shelf.now) list (λ t. result.held ≡ has S.Symbol.before t code.now) }
-    ensures waits { WhenGood S.Symbol.before (B.Shelf.vertices shelf.now) list (λ t. (change : Change) → Waits S.Symbol.before (B.Shelf.vertices shelf.now) code.now work.new result.height (codes (B.Shelf.vertices shelf.now) (end_number change)) (changed S.Symbol.before change t code.now)) }
+// Walks down the code's path, a frame for each step, and answers whether the code is in the list. A path that leaves the
+// vertices ends at terminal 0.
+fn descend<S: Symbol, B: Shelf<S>>(shelf: &B, list: u32, code: &[S], stack: &mut Stack) -> bool
+    requires empty { stack.old.frames ≡ [] }
+    requires room { list + length code.now ≤ stack.old.room }
+    ensures member { WhenGood S.Symbol.before (B.Shelf.vertices shelf.now) list (λ t. result ≡ has S.Symbol.before t code.now) }
+    ensures waits { WhenGood S.Symbol.before (B.Shelf.vertices shelf.now) list (λ t. (change : Change) → Waits S.Symbol.before (B.Shelf.vertices shelf.now) code.now stack.new.frames (codes (B.Shelf.vertices shelf.now) (end_number change)) (changed S.Symbol.before change t code.now)) }
 {
-    let mut height = 0;
     let mut at = list;
     let mut spot = 0;
     while let Some((frame, next, then)) = step(shelf, at, code, spot) {
-        work[height] = Place::from(frame);
-        height += 1;
+        stack.push(Place::from(frame));
         at = next;
         spot = then;
     }
-    Descent {
-        height,
-        held: at == 1,
-    }
+    at == 1
 }
 
 // The number of the list that a frame waited to make, once what it waited for has its number; no vertex has one link 0.
@@ -130,31 +113,20 @@ fn resume<S: Symbol, B: Shelf<S>>(
     }
 }
 
-// Goes back up the frames; where the shelf is full, all is cut back.
-fn rebuild<S: Symbol, B: Shelf<S>>(
+// Goes back up the frames, to the number of the whole list.
+fn unwind<S: Symbol, B: Shelf<S>>(
     shelf: &mut B,
     code: &[S],
-    work: &[Place],
-    height: usize,
+    stack: &mut Stack,
     end: u32,
 ) -> Result<u32, Full>
-    requires { height ≤ length work.now }
-    ensures answer { B.Shelf.ready shelf.old → Rebuilt S.Symbol.before (B.Shelf.capacity shelf.old) code.now work.now height (B.Shelf.vertices shelf.old) end result (B.Shelf.vertices shelf.new) }
+    ensures answer { B.Shelf.ready shelf.old → Unwound S.Symbol.before (B.Shelf.capacity shelf.old) code.now stack.old.frames (B.Shelf.vertices shelf.old) end result (B.Shelf.vertices shelf.new) }
     ensures ready { B.Shelf.ready shelf.old → B.Shelf.ready shelf.new }
     ensures size { B.Shelf.capacity shelf.new ≡ B.Shelf.capacity shelf.old }
 {
-    let start = shelf.used();
     let mut number = end;
-    let mut left = height;
-    while left > 0 {
-        left -= 1;
-        match resume(shelf, code, Frame::from(work[left]), number) {
-            Ok(next) => number = next,
-            Err(full) => {
-                shelf.cut(start);
-                return Err(full);
-            }
-        }
+    while let Some(place) = stack.pop() {
+        number = resume(shelf, code, Frame::from(place), number)?;
     }
     Ok(number)
 }
@@ -172,9 +144,15 @@ pub fn alter<S: Symbol, B: Shelf<S>>(
     ensures ready { B.Shelf.ready shelf.old → B.Shelf.ready shelf.new }
     ensures size { B.Shelf.capacity shelf.new ≡ B.Shelf.capacity shelf.old }
 {
-    let Descent { height, held } = descend(shelf, list, code, work);
+    let mut stack = Stack::new(work);
+    let held = descend(shelf, list, code, &mut stack);
     if change.is_settled(held) {
         return Ok(list);
     }
-    rebuild(shelf, code, work, height, change.end())
+    let start = shelf.used();
+    let altered = unwind(shelf, code, &mut stack, change.end());
+    if altered.is_err() {
+        shelf.cut(start);
+    }
+    altered
 }

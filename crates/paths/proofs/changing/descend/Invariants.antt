@@ -10,12 +10,12 @@ use Rattle.paths.proofs.changing.descend.Given as goal
 abbrev pub invariant-loop-frame : goal.invariant-loop-frame
 invariant-loop-frame g l =
     (l.spot ≤ length l.code) ×
-    (l.height + l.at + length l.code ≤ length l.work + l.spot) ×
+    (length l.stack.frames + l.at + length l.code ≤ l.stack.room + l.spot) ×
     (Sound g.S.Symbol.before (g.B.Shelf.vertices l.shelf) → Good (g.B.Shelf.vertices l.shelf) l.list →
     Good (g.B.Shelf.vertices l.shelf) l.at ×
     (has g.S.Symbol.before (codes (g.B.Shelf.vertices l.shelf) l.at) (drop l.spot l.code) ≡ has g.S.Symbol.before (codes (g.B.Shelf.vertices l.shelf) l.list) l.code) ×
     ((change : Change) →
-    Waits g.S.Symbol.before (g.B.Shelf.vertices l.shelf) l.code l.work l.height
+    Waits g.S.Symbol.before (g.B.Shelf.vertices l.shelf) l.code l.stack.frames
     (changed g.S.Symbol.before change (codes (g.B.Shelf.vertices l.shelf) l.at) (drop l.spot l.code))
     (changed g.S.Symbol.before change (codes (g.B.Shelf.vertices l.shelf) l.list) l.code)))
 
