@@ -6,8 +6,8 @@ ghost use Rattle.ledger.specs.Diagrams.{Formed, Sound};
 ghost use Rattle.memory.specs.Marks.{noted};
 ghost use Rattle.clearing.specs.Cleared.{AllGood, Clears};
 
-use crate::marking::mark_reached;
 use memory::marks::new_link;
+use memory::reached::mark_reached;
 use memory::shelf::Shelf;
 use memory::work::Place;
 use symbols::Symbol;
@@ -21,9 +21,10 @@ fn renumber_each(lists: &mut [u32], marks: &[Place])
     }
 }
 
-// Keeps what is reached from the keep-list, where there is a place for each vertex.
+// Keeps what is reached from the keep-list, by a place for each vertex.
 fn keep_reached<S: Symbol, B: Shelf<S>>(shelf: &mut B, keep: &mut [u32], marks: &mut [Place])
-    ensures answer { Formed S.Symbol.before (B.Shelf.vertices shelf.old) → length marks.old ≡ length (B.Shelf.vertices shelf.old) → AllGood (B.Shelf.vertices shelf.old) keep.old → Clears (B.Shelf.vertices shelf.old) keep.old (B.Shelf.vertices shelf.new) keep.new }
+    requires { length marks.old ≡ length (B.Shelf.vertices shelf.old) }
+    ensures answer { Formed S.Symbol.before (B.Shelf.vertices shelf.old) → AllGood (B.Shelf.vertices shelf.old) keep.old → Clears (B.Shelf.vertices shelf.old) keep.old (B.Shelf.vertices shelf.new) keep.new }
     ensures ready { B.Shelf.ready shelf.old → B.Shelf.ready shelf.new }
     ensures size { B.Shelf.capacity shelf.new ≡ B.Shelf.capacity shelf.old }
 {

@@ -125,12 +125,15 @@ pub noted_if : (ps : List Place) (n : ℕ) (r : Option (Bor Place)) (m : ℕ) {P
 noted_if ps n None m l e h q f = q ∙ noted_past ps n l h
 noted_if ps n (Some p) m l e h q f = f p q ∙ noted_read ps n p.now l h.0 e
 
-pub noted_new : (ps : List Place) (n : ℕ) → Renumbered ps ps → n ≤ length ps + 1 → noted ps n ≡ renumber (marks_in ps) n
-noted_new ps zero r h = refl
-noted_new ps (suc zero) r h = refl
-noted_new ps (suc (suc k)) r h =
+pub noted_of : (ps qs : List Place) (n : ℕ) → length qs ≡ length ps → Renumbered ps qs → n ≤ length ps + 1 → noted qs n ≡ renumber (marks_in ps) n
+noted_of ps qs zero l r h = refl
+noted_of ps qs (suc zero) l r h = refl
+noted_of ps qs (suc (suc k)) l r h =
     let d : Place = record { state = 0; list = 0; other = 0; number = 0; count = 0 } in
-    number_read ps k (suc (suc k)) d (omega arith) ∙ r k d (omega arith)
+    number_read qs k (suc (suc k)) d (omega arith) ∙ r k d (omega arith)
+
+pub noted_new : (ps : List Place) (n : ℕ) → Renumbered ps ps → n ≤ length ps + 1 → noted ps n ≡ renumber (marks_in ps) n
+noted_new ps n r h = noted_of ps ps n refl r h
 
 -- places that were given their numbers keep them, and their marks
 pub renumbered_now : (ps qs : List Place) → length qs ≡ length ps → marks_in qs ≡ marks_in ps → Renumbered ps qs → Renumbered qs qs

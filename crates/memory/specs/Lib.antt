@@ -1,3 +1,4 @@
 pub mod Marks
 pub mod Shelves
+pub mod Spreading
 pub mod Tables

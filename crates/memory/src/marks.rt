@@ -32,7 +32,9 @@ pub fn is_marked(marks: &[Place], n: u32) -> bool
     if n < 2 {
         return true;
     }
-    marks.get((n - 2) as usize).is_some_and(|place| place.state != 0)
+    marks
+        .get((n - 2) as usize)
+        .is_some_and(|place| place.state != 0)
 }
 
 // Whether a link of the vertex `own` may stay: it leads below `own`, to a terminal or to a marked vertex.
@@ -60,7 +62,9 @@ pub fn new_link(marks: &[Place], link: u32) -> u32
     if link < 2 {
         return link;
     }
-    marks.get((link - 2) as usize).map_or(link, |place| place.number)
+    marks
+        .get((link - 2) as usize)
+        .map_or(link, |place| place.number)
 }
 
 // A vertex with the new numbers of its links.

@@ -10,7 +10,7 @@ returns g c =
     let long = length-take-le (c.used-used.result) c.args.work.now (omega (arith, c.used-used.ensures, c.requires)) in
     record {
       value = c.used.ensures;
-      answer = λ sound good. c.keep_reached.ensures.answer sound.formed (long ∙ all) good;
+      answer = λ sound good. c.keep_reached.ensures.answer sound.formed good;
       ready = c.keep_reached.ensures.ready;
       size = c.keep_reached.ensures.size;
       kept =
