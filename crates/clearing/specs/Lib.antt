@@ -1,2 +1,1 @@
-pub mod Spreading
 pub mod Cleared

@@ -2,4 +2,3 @@
 #![tactic(auto)]
 
 pub mod clearing;
-pub mod marking;

@@ -1,7 +1,7 @@
 // Which code of a list has a given number of codes before it. The lists up to this one are tallied first. Then one walk
 // goes down the links: each turn ends the code, takes the label or passes it by, as the tallies tell. Each turn leads to
 // a lower number, and no more than 64 labels are taken, so the walk is short and stays in the output on any memory.
-ghost use Rattle.std.specs.Prelude.{◌≡◌, ℕ, ◌+◌, ◌<◌, ◌≤◌, length, drop, slice_set};
+ghost use Rattle.std.specs.Prelude.{◌≡◌, ℕ, ◌+◌, ◌<◌, ◌≤◌, length, drop};
 ghost use Rattle.ledger.specs.Diagrams.{Good, Sound};
 ghost use Rattle.ledger.specs.Ledger.{codes};
 ghost use Rattle.ledger.specs.Ordered.{ordered};
@@ -13,10 +13,7 @@ use crate::tallying::{tally_at, tally_up_to};
 use memory::reading::read_vertex;
 use memory::shelf::Shelf;
 use memory::work::Place;
-use symbols::Symbol;
-
-// No code is longer.
-const LONGEST: usize = 64;
+use symbols::{LONGEST_CODE, Symbol};
 
 // Why no code is picked: the list has 2^64 codes or more, or no code of it has so many before it.
 #[derive(Clone, Copy, Debug, PartialEq, Eq)]
@@ -83,14 +80,6 @@ fn turn_at<S: Symbol, B: Shelf<S>>(shelf: &B, spot: Spot, work: &[Place]) -> Tur
     })
 }
 
-// Writes one symbol.
-fn put<S: Symbol>(out: &mut [S], at: usize, symbol: S)
-    requires { at < length out.old }
-    ensures { out.new ≡ slice_set out.old at symbol }
-{
-    out[at] = symbol;
-}
-
 // Makes a turn, and writes the label that it takes; nothing where the code ends.
 fn advance<S: Symbol, B: Shelf<S>>(
     shelf: &B,
@@ -112,10 +101,10 @@ fn advance<S: Symbol, B: Shelf<S>>(
             length: course.length,
         }),
         Turn::Takes(label, rest) => {
-            if course.length >= LONGEST {
+            if course.length >= LONGEST_CODE {
                 return None;
             }
-            put(out, course.length, label);
+            out[course.length] = label;
             Some(Course {
                 rest,
                 length: course.length + 1,
@@ -155,9 +144,7 @@ pub fn pick<S: Symbol, B: Shelf<S>>(
     ensures kept { PickKeeps out.old result out.new }
 {
     tally_up_to(shelf, list, work);
-    let Some(count) = tally_at(work, list).codes else {
-        return Err(PickFault::TooMany);
-    };
+    let count = tally_at(work, list).codes.ok_or(PickFault::TooMany)?;
     if k >= count {
         return Err(PickFault::NoSuchCode);
     }

@@ -24,34 +24,32 @@ const COUNTED: u32 = 0;
 const TOO_MANY: u32 = 1;
 
 // The place that keeps a tally.
-fn place_of(tally: Tally) -> Place
-    ensures { held result ≡ tally }
-{
-    let (state, count) = match tally.codes {
-        Some(count) => (COUNTED, count),
-        None => (TOO_MANY, 0),
-    };
-    Place {
-        state,
-        list: 0,
-        other: 0,
-        number: u32::from(tally.empty),
-        count,
+impl From<Tally> for Place {
+    ghost from_gives = { λ t p. held p ≡ t };
+
+    fn from(tally: Tally) -> Place {
+        let (state, count) = match tally.codes {
+            Some(count) => (COUNTED, count),
+            None => (TOO_MANY, 0),
+        };
+        Place {
+            state,
+            number: u32::from(tally.empty),
+            count,
+            ..Place::default()
+        }
     }
 }
 
 // The tally that a place keeps.
-fn tally_in(place: Place) -> Tally
-    ensures { result ≡ held place }
-{
-    let codes = if place.state == COUNTED {
-        Some(place.count)
-    } else {
-        None
-    };
-    Tally {
-        codes,
-        empty: place.number != 0,
+impl From<Place> for Tally {
+    ghost from_gives = { λ p t. t ≡ held p };
+
+    fn from(place: Place) -> Tally {
+        Tally {
+            codes: (place.state == COUNTED).then_some(place.count),
+            empty: place.number != 0,
+        }
     }
 }
 
@@ -60,7 +58,7 @@ pub(crate) fn tally_at(work: &[Place], n: u32) -> Tally
     requires { n < length work.now }
     ensures { result ≡ held (slice_index_or work.now n vacant) }
 {
-    tally_in(work[n as usize])
+    Tally::from(work[n as usize])
 }
 
 // A sum of two counts.
@@ -77,7 +75,7 @@ fn tally_of<S: Symbol, B: Shelf<S>>(shelf: &B, n: u32, work: &[Place]) -> Tally
 {
     let Some((_, zero, one)) = read_vertex(shelf, n) else {
         return Tally {
-            codes: Some(n as u64),
+            codes: Some(u64::from(n)),
             empty: n == 1,
         };
     };
@@ -95,7 +93,7 @@ pub(crate) fn tally_up_to<S: Symbol, B: Shelf<S>>(shelf: &B, list: u32, work: &m
     ensures { Sound S.Symbol.before (B.Shelf.vertices shelf.now) → Good (B.Shelf.vertices shelf.now) list → Tallied (B.Shelf.vertices shelf.now) (list + 1) work.new }
 {
     for n in 0..=list {
-        work[n as usize] = place_of(tally_of(shelf, n, work));
+        work[n as usize] = Place::from(tally_of(shelf, n, work));
     }
 }
 

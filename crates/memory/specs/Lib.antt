@@ -1,4 +1,5 @@
 pub mod Marks
 pub mod Shelves
 pub mod Stacked
+pub mod Spreading
 pub mod Tables

@@ -2,6 +2,7 @@
 #![tactic(auto)]
 
 pub mod marks;
+pub mod reached;
 pub mod reading;
 pub mod recall;
 pub mod shelf;

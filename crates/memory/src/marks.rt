@@ -18,20 +18,11 @@ pub fn number_marks(marks: &mut [Place]) -> u32
     ensures same { marks_in marks.new ≡ marks_in marks.old }
 {
     let mut count: u32 = 0;
-    for i in 0..marks.len() {
-        let place = marks[i];
-        marks[i] = numbered(place, count + 2);
+    for place in marks.iter_mut() {
+        place.number = count + 2;
         count += u32::from(place.state != 0);
     }
     count
-}
-
-// The place with another number; its mark stays.
-fn numbered(place: Place, number: u32) -> Place
-    ensures value { result.number ≡ number }
-    ensures same { result.state ≡ place.state }
-{
-    Place { number, ..place }
 }
 
 // Whether a number is a terminal's or a marked vertex's.
@@ -41,10 +32,9 @@ pub fn is_marked(marks: &[Place], n: u32) -> bool
     if n < 2 {
         return true;
     }
-    match marks.get((n - 2) as usize) {
-        Some(place) => place.state != 0,
-        None => false,
-    }
+    marks
+        .get((n - 2) as usize)
+        .is_some_and(|place| place.state != 0)
 }
 
 // Whether a link of the vertex `own` may stay: it leads below `own`, to a terminal or to a marked vertex.
@@ -72,10 +62,9 @@ pub fn new_link(marks: &[Place], link: u32) -> u32
     if link < 2 {
         return link;
     }
-    match marks.get((link - 2) as usize) {
-        Some(place) => place.number,
-        None => link,
-    }
+    marks
+        .get((link - 2) as usize)
+        .map_or(link, |place| place.number)
 }
 
 // A vertex with the new numbers of its links.

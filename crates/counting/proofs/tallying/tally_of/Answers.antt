@@ -8,8 +8,9 @@ use Rattle.counting.proofs.tallying.tally_of.Goals as goal
 
 pub returns-in_default : goal.returns-in_default
 returns-in_default g c = λ sound good tallied.
-    tells_terminal (g.B.Shelf.vertices c.args.shelf.now) c.args.n good
-    (unlooked (g.B.Shelf.vertices c.args.shelf.now) c.args.n (c.in_default.ensures.value sound.formed))
+    rw c.from.ensures
+    (tells_terminal (g.B.Shelf.vertices c.args.shelf.now) c.args.n good
+    (unlooked (g.B.Shelf.vertices c.args.shelf.now) c.args.n (c.in_default.ensures.value sound.formed)))
 
 pub returns : goal.returns
 returns g c = λ sound good tallied.

@@ -1,11 +1,11 @@
 use Rattle.std.proofs.Common.{◌≡◌, ℕ, ap, ◌∙◌, ap₂, inl}
 use Rattle.memory.specs.Shelves.{marks_in}
+use Rattle.memory.specs.Spreading.{with_mark}
 use Rattle.memory.proofs.Looks.{looked}
-use Rattle.clearing.specs.Spreading.{with_mark}
-use Rattle.clearing.proofs.marking.visit.Goals as goal
+use Rattle.memory.proofs.reached.visit.Goals as goal
 
-pub returns : goal.returns
-returns g c = λ formed.
+pub returns-in-Some : goal.returns-in-Some
+returns-in-Some g c = λ formed.
     let l = looked (g.B.Shelf.vertices c.args.shelf.now) c.args.n _ (c.in-Some.ensures.value formed) in
     let zero_is : c.in-Some.zero ≡ l.0.zero = ap (λ (t : g.row.S.Denot × ℕ × ℕ). t.1) l.2 in
     let one_is : c.in-Some.one ≡ l.0.one = ap (λ (t : g.row.S.Denot × ℕ × ℕ). t.2) l.2 in
@@ -14,6 +14,7 @@ returns g c = λ formed.
       (
         l.0,
         l.1,
-        c.mark_both.ensures ∙ ap₂ (λ z o. with_mark (with_mark (marks_in c.args.marks.now) z) o) zero_is one_is,
+        c.mark-in-Some.ensures ∙ ap (λ ms. with_mark ms c.in-Some.one) c.mark.ensures ∙
+            ap₂ (λ z o. with_mark (with_mark (marks_in c.args.marks.now) z) o) zero_is one_is,
       ),
     )

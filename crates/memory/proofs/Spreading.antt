@@ -2,11 +2,11 @@
 use Rattle.std.proofs.Common.{◌≡◌, ℕ, zero, suc, ◌+◌, ◌-◌, ◌<◌, ◌≤◌, Bool, true, false, ◌⊎◌, List, [], ◌∷◌, length, get_or, drop, set, replicate, sym, refl, ap, ◌∙◌, inl, inr, arith}
 use mathlib.Core.List.{Memᴰ}
 use mathlib.Core.Path.{subst⁻¹}
-use Rattle.std.proofs.lemmas.List.{at_drop_all, at_drop_more, get_or-set_same, length-map, length-set, map-set, set_past}
+use Rattle.std.proofs.lemmas.List.{at_drop_all, at_drop_more, get_or-set_same, length-set, map-set}
 use Rattle.ledger.specs.Gather.{Marked}
 use Rattle.memory.specs.declared.work.Place.{Place}
 use Rattle.memory.specs.Shelves.{is_mark, marks_in}
-use Rattle.clearing.specs.Spreading.{unmarked_place, with_mark, with_marks}
+use Rattle.memory.specs.Spreading.{with_mark, with_marks}
 
 set_stays : (ms : List Bool) (j i : ℕ) → get_or ms i false ≡ true → get_or (set ms j true) i false ≡ true
 set_stays [] j i m = m
@@ -82,11 +82,6 @@ length_marks [] ms = refl
 length_marks (n ∷ ns) ms = length_marks ns (with_mark ms n) ∙ length_mark ms n
 
 -- marks as places hold them
-pub no_place_past : (ps : List Place) (n : ℕ) → 2 ≤ n → length ps ≤ n - 2 → marks_in ps ≡ with_mark (marks_in ps) n
-no_place_past ps zero l h = refl
-no_place_past ps (suc zero) l h = refl
-no_place_past ps (suc (suc k)) l h = sym (set_past (marks_in ps) k true (omega (arith, length-map ps is_mark)))
-
 pub place_marked : (ps : List Place) (n : ℕ) (p : Place) → 2 ≤ n → is_mark p ≡ true → marks_in (set ps (n - 2) p) ≡ with_mark (marks_in ps) n
 place_marked ps zero p l e = absurd (omega arith)
 place_marked ps (suc zero) p l e = absurd (omega arith)
@@ -98,12 +93,12 @@ place_marked ps (suc (suc k)) p l e =
 abbrev pub Unmarked : List Bool → Type 0
 Unmarked ms = (k : ℕ) → get_or ms k false ≡ false
 
-pub unmarked_all : (ps : List Place) (n : ℕ) → ps ≡ replicate n unmarked_place → Unmarked (marks_in ps)
-unmarked_all ps n e k = ap (λ qs. get_or (marks_in qs) k false) e ∙ by n k
+pub unmarked_all : (ps : List Place) (n : ℕ) (p : Place) → is_mark p ≡ false → ps ≡ replicate n p → Unmarked (marks_in ps)
+unmarked_all ps n p u e k = ap (λ qs. get_or (marks_in qs) k false) e ∙ by n k
   where
-    by : (n k : ℕ) → get_or (marks_in (replicate n unmarked_place)) k false ≡ false
+    by : (n k : ℕ) → get_or (marks_in (replicate n p)) k false ≡ false
     by zero k = refl
-    by (suc n) zero = refl
+    by (suc n) zero = u
     by (suc n) (suc k) = by n k
 
 -- a pass over the lists to mark

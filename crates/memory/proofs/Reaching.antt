@@ -1,16 +1,50 @@
--- From the last number down marks spread over links, and in the end they keep just what is reached from the keep-list.
-use Rattle.std.proofs.Common.{◌≡◌, ℕ, zero, suc, ◌+◌, ◌<◌, ◌≤◌, Bool, ◌⊎◌, List, length, Some, None, sym, refl, ◌∙◌, subst, inl, inr, arith}
+-- From the last number down marks spread over links, and in the end they keep just what is reached from the lists.
+use Rattle.std.proofs.Common.{◌≡◌, ℕ, zero, suc, ◌+◌, ◌<◌, ◌≤◌, Bool, ◌⊎◌, List, [], ◌∷◌, length, take, Some, None, sym, refl, ◌∙◌, subst, inl, inr, arith}
 use mathlib.Core.List.{Memᴰ}
 use mathlib.Core.Path.{subst⁻¹}
 use Rattle.std.proofs.lemmas.Bool.{cases_eq}
+use Rattle.std.proofs.lemmas.List.{length-take-le}
+use Rattle.std.specs.List.{slice_get}
 use Rattle.ledger.specs.declared.Vertex.{Vertex}
 use Rattle.ledger.specs.Diagrams.{look, Formed, Reached, itself, over_zero, over_one}
 use Rattle.ledger.specs.Gather.{Gatherable, Keeps, Marked}
 use Rattle.ledger.proofs.Reading.{some_same, none_some, true_false}
 use Rattle.ledger.proofs.Canon.{vertex_good}
 use Rattle.ledger.proofs.Least.{vertex_from_2}
-use Rattle.clearing.specs.Spreading.{Spread, Visited, with_mark, with_marks}
-use Rattle.clearing.proofs.Marks.{Unmarked, mark_stays, mark_here, mark_cases, length_mark, marks_here, marks_cases, length_marks}
+use Rattle.memory.specs.Spreading.{Spread, Visited, with_mark, with_marks}
+use Rattle.memory.proofs.Spreading.{Unmarked, mark_stays, mark_here, mark_cases, length_mark, marks_here, marks_cases, length_marks}
+
+-- the first vertices
+nth_front : {A : Type 0} (xs : List A) (m k : ℕ) → k < m → slice_get (take m xs) k ≡ slice_get xs k
+nth_front xs zero k h = absurd (omega arith)
+nth_front [] (suc m) k h = refl
+nth_front (x ∷ xs) (suc m) zero h = refl
+nth_front (x ∷ xs) (suc m) (suc k) h = nth_front xs m k (omega arith)
+
+pub look_front : {S : Type 0} (vs : List (Vertex S)) (m n : ℕ) → n ≤ m + 1 → look (take m vs) n ≡ look vs n
+look_front vs m zero h = refl
+look_front vs m (suc zero) h = refl
+look_front vs m (suc (suc k)) h = nth_front vs m k (omega arith)
+
+pub front_look : {S : Type 0} (vs : List (Vertex S)) (m n : ℕ) (v : Vertex S) → m ≤ length vs → look (take m vs) n ≡ Some v → look vs n ≡ Some v
+front_look vs m n v h e =
+    let g = vertex_good (take m vs) n v e in
+    sym (look_front vs m n (omega (arith, length-take-le m vs h))) ∙ e
+
+pub formed_front : {S : Type 0} (before : S → S → Bool) (vs : List (Vertex S)) (m : ℕ) → m ≤ length vs → Formed before vs → Formed before (take m vs)
+formed_front before vs m h formed =
+    record {
+      zero_below = λ n v e. formed.zero_below n v (front_look vs m n v h e);
+      one_below = λ n v e. formed.one_below n v (front_look vs m n v h e);
+      one_not_0 = λ n v e. formed.one_not_0 n v (front_look vs m n v h e);
+      later = λ n v w e f. formed.later n v w (front_look vs m n v h e) (front_look vs m v.zero w h f);
+    }
+
+-- what coming to a number does, where it has a place
+pub visited_front : {S : Type 0} (vs : List (Vertex S)) (m n : ℕ) (ms after : List Bool) → n ≤ m + 1 → Visited vs n ms after → Visited (take m vs) n ms after
+visited_front vs m n ms after h (inl u) = inl (u.0, (u.1.0, look_front vs m n h ∙ u.1.1, u.1.2))
+visited_front vs m n ms after h (inr (inl not, is)) = inr (inl not, is)
+visited_front vs m n ms after h (inr (inr none, is)) = inr (inr (look_front vs m n h ∙ none), is)
 
 -- what is reached from what is reached is reached
 reached_then : {S : Type 0} {vs : List (Vertex S)} {a b k : ℕ} → Reached vs a b → Reached vs b k → Reached vs a k

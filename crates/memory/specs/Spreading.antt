@@ -1,13 +1,9 @@
--- Marks, one a vertex, and how they spread from a keep-list over links.
+-- Marks, one a vertex, and how they spread from some lists over links.
 use Rattle.std.specs.Prelude.{◌≡◌, ℕ, zero, suc, ◌≤◌, Bool, true, ◌⊎◌, List, [], ◌∷◌, length, Some, None, slice_set}
 use mathlib.Core.List.{Memᴰ}
 use Rattle.ledger.specs.declared.Vertex.{Vertex}
 use Rattle.ledger.specs.Diagrams.{look, Reached}
 use Rattle.ledger.specs.Gather.{Marked}
-use Rattle.memory.specs.declared.work.Place.{Place}
-
-abbrev pub unmarked_place : Place
-unmarked_place = record { state = 0; list = 0; other = 0; number = 0; count = 0 }
 
 -- one more mark; terminals, and numbers past the vertices, have none
 abbrev pub with_mark : List Bool → ℕ → List Bool
@@ -25,8 +21,8 @@ Visited {S} vs n ms after =
     (Marked ms n × ((v : Vertex S) × (look vs n ≡ Some v) × (after ≡ with_mark (with_mark ms v.zero) v.one))) ⊎
     (((Marked ms n → ⊥) ⊎ (look vs n ≡ None)) × (after ≡ ms))
 
--- Marks that have spread over the links of the numbers from n on: what is marked is reached from the keep-list, the
--- keep-list's vertices are marked, and from n on a marked vertex has marked links.
+-- Marks that have spread over the links of the numbers from n on: what is marked is reached from the lists, the
+-- lists' own vertices are marked, and from n on a marked vertex has marked links.
 pub record Spread {S : Type 0} (vs : List (Vertex S)) (keep : List ℕ) (n : ℕ) (ms : List Bool) : Type 0 where
   pub numbered : length ms ≡ length vs
   pub reached : (k : ℕ) (v : Vertex S) → look vs k ≡ Some v → Marked ms k → (j : ℕ) × Memᴰ j keep × Reached vs j k

@@ -1,7 +1,7 @@
 use Rattle.std.proofs.Common.{sym, refl, ◌∙◌}
 use Rattle.memory.specs.Shelves.{marks_in}
-use Rattle.clearing.proofs.Marks.{each_more, each_all}
-use Rattle.clearing.proofs.marking.mark_each.Goals as goal
+use Rattle.memory.proofs.Spreading.{each_more, each_all}
+use Rattle.memory.proofs.reached.mark_each.Goals as goal
 
 pub loop-list-init : goal.loop-list-init
 loop-list-init c = refl
