@@ -1,6 +1,7 @@
 // The memory under a store: what a shelf, a recall table and a work space are, whoever builds them.
 #![tactic(auto)]
 
+pub mod buckets;
 pub mod marks;
 pub mod reading;
 pub mod recall;
