@@ -5,5 +5,6 @@ pub mod buckets;
 pub mod marks;
 pub mod reading;
 pub mod recall;
+pub mod records;
 pub mod shelf;
 pub mod work;
