@@ -5,7 +5,7 @@ use Rattle.std.proofs.lemmas.List.{length-set, length-map, get_or-set_same, get_
 use Rattle.std.proofs.lemmas.Bool.{cases_lt, cases_eq}
 use Rattle.ledger.specs.declared.Vertex.{Vertex}
 use Rattle.bucket_shelf.specs.declared.Entry.{Entry}
-use Rattle.bucket_shelf.specs.Place.{bucket}
+use Rattle.memory.specs.Buckets.{bucket}
 use Rattle.bucket_shelf.specs.Chains.{vertex_of, vertices_in, Top, Chained}
 use Rattle.bucket_shelf.proofs.Indices.{nth_map, nth_set_other, nth_set_same}
 

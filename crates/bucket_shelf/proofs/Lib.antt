@@ -2,4 +2,3 @@ mod Indices
 mod Chaining
 mod Walking
 mod Rooms
-mod Keeping

@@ -5,7 +5,7 @@ use Rattle.std.proofs.lemmas.Bool.{cases_lt}
 use Rattle.ledger.specs.declared.Vertex.{Vertex}
 use Rattle.ledger.specs.Laid.{First}
 use Rattle.bucket_shelf.specs.declared.Entry.{Entry}
-use Rattle.bucket_shelf.specs.Place.{bucket}
+use Rattle.memory.specs.Buckets.{bucket}
 use Rattle.bucket_shelf.specs.Chains.{vertex_of, vertices_in, Top, Chained}
 use Rattle.bucket_shelf.proofs.Indices.{nth_whole, nth_part, nth_map, look_at, looks_from_2}
 

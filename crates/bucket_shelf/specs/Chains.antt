@@ -7,7 +7,7 @@ use Rattle.ledger.specs.Gather.{gather, Gatherable}
 use Rattle.memory.specs.declared.work.Place.{Place}
 use Rattle.memory.specs.Shelves.{marks_in, Renumbered}
 use Rattle.bucket_shelf.specs.declared.Entry.{Entry}
-use Rattle.bucket_shelf.specs.Place.{bucket}
+use Rattle.memory.specs.Buckets.{bucket}
 
 abbrev pub vertex_of : {S : Type 0} → Entry S → Vertex S
 vertex_of e = e.vertex

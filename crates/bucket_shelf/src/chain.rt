@@ -3,11 +3,12 @@ ghost use Rattle.std.specs.Prelude.{◌≡◌, ℕ, ◌+◌, ◌-◌, ◌<◌, �
 ghost use Rattle.std.specs.Option.{option_map};
 ghost use Rattle.ledger.specs.Diagrams.{look, parts};
 ghost use Rattle.ledger.specs.Laid.{First};
-ghost use Rattle.bucket_shelf.specs.Place.{bucket};
+ghost use Rattle.memory.specs.Buckets.{bucket};
 ghost use Rattle.bucket_shelf.specs.Chains.{vertices_in, Chained};
 
-use crate::{Entry, place};
+use crate::Entry;
 use ledger::Vertex;
+use memory::buckets::bucket;
 use memory::reading::same_vertex;
 use symbols::Symbol;
 
@@ -113,7 +114,7 @@ fn drop_top<S: Symbol>(heads: &mut [u32], entry: Entry<S>)
     requires { 0 < length heads.old }
     ensures { heads.new ≡ slice_set heads.old (bucket S.Symbol.scatter (length heads.old) entry.vertex) entry.next }
 {
-    let at = place::bucket(entry.vertex, heads.len());
+    let at = bucket(entry.vertex, heads.len());
     heads[at] = entry.next;
 }
 

@@ -5,9 +5,10 @@ ghost use Rattle.memory.specs.Marks.{noted_vertex, AllStay};
 ghost use Rattle.memory.specs.Shelves.{marks_in};
 ghost use Rattle.bucket_shelf.specs.Chains.{vertices_in, Chained, Gathers};
 
+use crate::Entry;
 use crate::chain::{clear, entry_at, link};
-use crate::{Entry, place};
 use ledger::Vertex;
+use memory::buckets::bucket;
 use memory::marks::{is_marked, new_vertex, number_marks, vertex_stays};
 use memory::work::Place;
 use symbols::Symbol;
@@ -39,7 +40,7 @@ fn keep_vertex<S: Symbol>(
     ensures ready { Chained S.Symbol.scatter records.old heads.old to → Chained S.Symbol.scatter records.new heads.new (to + 1) }
 {
     let kept = new_vertex(marks, vertex);
-    let at = place::bucket(kept, heads.len());
+    let at = bucket(kept, heads.len());
     link(records, heads, to, at, kept);
 }
 

@@ -1,7 +1,7 @@
 // The two runs that a bucket shelf is lent, each in a struct of its own, so that both can be lent on in one call.
 ghost use Rattle.std.specs.Prelude.{◌≡◌, ◌+◌, ◌<◌, ◌≤◌, min, length, take, slice_set};
 ghost use Rattle.ledger.specs.Laid.{First};
-ghost use Rattle.bucket_shelf.specs.Place.{bucket};
+ghost use Rattle.memory.specs.Buckets.{bucket};
 ghost use Rattle.bucket_shelf.specs.Chains.{vertices_in, Chained, Gathers};
 
 use crate::{Entry, chain, gather};

@@ -9,11 +9,12 @@
 ghost use Rattle.std.specs.Prelude.{◌≡◌, ◌+◌, ◌<◌, min, true, ◌↔◌, [], length, take, if◌then◌else◌, Ok};
 ghost use Rattle.ledger.specs.Gather.{gather, Gatherable};
 ghost use Rattle.memory.specs.Shelves.{Appends, FoundOrAppended, marks_in, Renumbered};
-ghost use Rattle.bucket_shelf.specs.Place.{bucket};
+ghost use Rattle.memory.specs.Buckets.{bucket};
 ghost use Rattle.bucket_shelf.specs.Shelves.{records_of, heads_of, room_of, vertices_of, Ready, bounds_of};
 
 use crate::lent::{Heads, Records};
 use ledger::Vertex;
+use memory::buckets::bucket;
 use memory::shelf::{Full, Shelf};
 use memory::work::Place;
 use symbols::Symbol;
@@ -21,7 +22,6 @@ use symbols::Symbol;
 mod chain;
 mod gather;
 mod lent;
-mod place;
 
 // A vertex in its bucket's chain: `next` is one more than the index of the next lower vertex of the bucket, or 0.
 #[derive(Clone, Copy)]
@@ -158,7 +158,7 @@ impl<'a, S: Symbol> Shelf<S> for BucketShelf<'a, S> {
         }
         let used = self.in_use();
         let vertex = Vertex { label, zero, one };
-        let at = place::bucket(vertex, self.heads.at.len());
+        let at = bucket(vertex, self.heads.at.len());
         chain::find(self.records.at, self.heads.at, used, at, vertex)
     }
 
@@ -167,7 +167,7 @@ impl<'a, S: Symbol> Shelf<S> for BucketShelf<'a, S> {
             return Err(Full);
         }
         let vertex = Vertex { label, zero, one };
-        let at = place::bucket(vertex, self.heads.at.len());
+        let at = bucket(vertex, self.heads.at.len());
         Ok(self.push(at, vertex))
     }
 
@@ -177,7 +177,7 @@ impl<'a, S: Symbol> Shelf<S> for BucketShelf<'a, S> {
             return Err(Full);
         }
         let vertex = Vertex { label, zero, one };
-        let at = place::bucket(vertex, self.heads.at.len());
+        let at = bucket(vertex, self.heads.at.len());
         self.find_or_push(at, vertex)
     }
 

@@ -1,3 +1,4 @@
+pub mod Buckets
 pub mod Marks
 pub mod Shelves
 pub mod Stacked

@@ -1,10 +1,12 @@
 // The memory under a store: what a shelf, a recall table and a work space are, whoever builds them.
 #![tactic(auto)]
 
+pub mod buckets;
 pub mod marks;
 pub mod reached;
 pub mod reading;
 pub mod recall;
+pub mod records;
 pub mod shelf;
 pub mod stack;
 pub mod work;

@@ -11,19 +11,13 @@ use Rattle.memory.specs.Shelves.{marks_in, Renumbered}
 abbrev pub row_capacity : {X : Type 0} → List X → ℕ
 row_capacity run = min (length run) 1000000
 
--- the vertices: the first `used` records, as far as the capacity goes
-abbrev pub row_vertices : {X : Type 0} → ℕ → List X → List X
-row_vertices used run = take (min used (row_capacity run)) run
-
-pub row_bounds : {X : Type 0} (used : ℕ) (run : List X) → (length (row_vertices used run) ≤ row_capacity run) × (row_capacity run ≤ 1000000)
-row_bounds used run = (omega (arith, length-take (min used (row_capacity run)) run), omega arith)
+pub row_bounds : {X : Type 0} (used : ℕ) (run : List X) → used ≤ row_capacity run → (length (take used run) ≤ row_capacity run) × (row_capacity run ≤ 1000000)
+row_bounds used run h = (omega (arith, length-take used run), omega arith)
 
 -- the vertex becomes the last one, and m records are used then; or there is no place, and the run stays as it is
 abbrev pub RowAppends : {X : Type 0} → ℕ → List X → X → Result ℕ Full → List X → Type 0
-RowAppends used xs x (Ok m) ys =
-    (length (row_vertices used xs) < row_capacity xs) × (row_vertices m ys ≡ row_vertices used xs ++ x ∷ []) ×
-    (m ≡ length (row_vertices used xs) + 1) × (m ≤ 1000000)
-RowAppends used xs x (Err e) ys = (length (row_vertices used xs) ≡ row_capacity xs) × (ys ≡ xs)
+RowAppends used xs x (Ok m) ys = (used < row_capacity xs) × (take m ys ≡ take used xs ++ x ∷ []) × (m ≡ used + 1)
+RowAppends used xs x (Err e) ys = (used ≡ row_capacity xs) × (ys ≡ xs)
 
 -- the first `used` records become the marked ones, r many, and each place has its vertex's new number; or the marks do
 -- not fit, and the run stays as it is

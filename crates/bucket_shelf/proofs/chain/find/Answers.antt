@@ -1,6 +1,6 @@
 use Rattle.std.proofs.Common.{◌≡◌, ◌-◌, length, Some, ap, ◌∙◌, ⊎_elim, arith}
 use Rattle.std.specs.List.{slice_get}
-use Rattle.bucket_shelf.specs.Place.{bucket}
+use Rattle.memory.specs.Buckets.{bucket}
 use Rattle.bucket_shelf.specs.Chains.{vertex_of, vertices_in, Top}
 use Rattle.bucket_shelf.proofs.Indices.{nth_entry, nth_map}
 use Rattle.bucket_shelf.proofs.Walking.{walk_head, walk_next, walk_yes, walk_no, walk_all}

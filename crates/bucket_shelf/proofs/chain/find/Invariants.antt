@@ -1,5 +1,5 @@
 use Rattle.std.proofs.Common.{◌≡◌, ◌≤◌, length}
-use Rattle.bucket_shelf.specs.Place.{bucket}
+use Rattle.memory.specs.Buckets.{bucket}
 use Rattle.bucket_shelf.specs.Chains.{vertices_in, Chained}
 use Rattle.bucket_shelf.proofs.Walking.{Walk}
 use Rattle.bucket_shelf.proofs.chain.find.Given as goal

@@ -1,5 +1,5 @@
 use Rattle.std.proofs.Common.{◌≡◌, ◌+◌, ◌-◌, ◌<◌, min, length, refl, arith}
-use Rattle.bucket_shelf.specs.Place.{bucket, bucket_within}
+use Rattle.memory.specs.Buckets.{bucket, bucket_within}
 use Rattle.bucket_shelf.proofs.Indices.{nth_entry}
 use Rattle.bucket_shelf.proofs.Chaining.{chained_unlink}
 use Rattle.bucket_shelf.proofs.chain.unlink.Goals as goal

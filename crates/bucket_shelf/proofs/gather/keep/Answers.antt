@@ -8,7 +8,7 @@ use Rattle.memory.proofs.Gathers.{mark_here}
 use Rattle.bucket_shelf.specs.Chains.{vertices_in}
 use Rattle.bucket_shelf.proofs.Indices.{length_vertices, get_or_vertices}
 use Rattle.bucket_shelf.proofs.Chaining.{chained_none}
-use Rattle.bucket_shelf.proofs.Keeping.{Keeps, keeps_none, keeps_no, keeps_yes, keeps_all}
+use Rattle.memory.proofs.Keeping.{Keeps, keeps_none, keeps_no, keeps_yes, keeps_all}
 use Rattle.bucket_shelf.proofs.gather.keep.Goals as goal
 use Rattle.bucket_shelf.proofs.gather.keep.Goals.{then-is_marked, else-is_marked}
 

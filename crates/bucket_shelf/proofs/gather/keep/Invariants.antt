@@ -1,7 +1,7 @@
 use Rattle.memory.specs.Marks.{noted_vertex}
 use Rattle.memory.specs.Shelves.{marks_in}
 use Rattle.bucket_shelf.specs.Chains.{vertices_in, Chained}
-use Rattle.bucket_shelf.proofs.Keeping.{Keeps}
+use Rattle.memory.proofs.Keeping.{Keeps}
 use Rattle.bucket_shelf.proofs.gather.keep.Given as goal
 
 abbrev pub invariant-loop-i : goal.invariant-loop-i

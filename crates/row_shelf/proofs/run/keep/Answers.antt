@@ -4,7 +4,7 @@ use Rattle.ledger.specs.Gather.{keep}
 use Rattle.memory.specs.Marks.{noted_vertex}
 use Rattle.memory.specs.Shelves.{is_mark, marks_in}
 use Rattle.memory.proofs.Gathers.{mark_here}
-use Rattle.row_shelf.proofs.Rows.{keeps_none, keeps_yes, keeps_no, keeps_all}
+use Rattle.memory.proofs.Keeping.{keeps_none, keeps_yes, keeps_no, keeps_all}
 use Rattle.row_shelf.proofs.run.keep.Goals as goal
 use Rattle.row_shelf.proofs.run.keep.Goals.{then-is_marked, else-is_marked}
 
@@ -18,12 +18,12 @@ loop-i-preserved g c =
     elim c.if-is_marked.branch [
       | then-is_marked w ↦
           rw (w.run-is, w.to-is, w.new_vertex.ensures.noted)
-          (keeps_yes (noted_vertex c.args.marks.now) (marks_in c.args.marks.now) c.args.run.now c.loop-i.run c.loop-i.to c.loop-i.i
-          (omega arith) (omega arith) c.loop-i.invariant w.index-run-i.result (marked ∙ w.if-is_marked.true) w.index-run-i.is)
+          (keeps_yes (noted_vertex c.args.marks.now) (marks_in c.args.marks.now) c.args.run.now c.loop-i.run c.loop-i.to c.loop-i.i w.index-run-i.result
+          (omega arith) (omega arith) (marked ∙ w.if-is_marked.true) w.index-run-i.is c.loop-i.invariant)
       | else-is_marked w ↦
           rw (w.run-is, w.to-is)
           (keeps_no (noted_vertex c.args.marks.now) (marks_in c.args.marks.now) c.args.run.now c.loop-i.run c.loop-i.to c.loop-i.i
-          (omega arith) (omega arith) c.loop-i.invariant (marked ∙ w.if-is_marked.false))
+          (omega arith) (omega arith) (marked ∙ w.if-is_marked.false) c.loop-i.invariant)
     ]
 
 pub returns : goal.returns

@@ -1,6 +1,6 @@
 use Rattle.memory.specs.Marks.{noted_vertex}
 use Rattle.memory.specs.Shelves.{marks_in}
-use Rattle.row_shelf.proofs.Rows.{Keeps}
+use Rattle.memory.proofs.Keeping.{Keeps}
 use Rattle.row_shelf.proofs.run.keep.Given as goal
 
 abbrev pub invariant-loop-i : goal.invariant-loop-i

@@ -15,8 +15,8 @@ mixed scatter low high =
 
 -- the bucket of a vertex among so many
 unfoldable pub bucket : {S : Type 0} → (S → ℕ) → ℕ → Vertex S → ℕ
-bucket scatter heads v = mixed (scatter v.label) v.zero v.one % heads
+bucket scatter count v = mixed (scatter v.label) v.zero v.one % count
 
-pub bucket_within : {S : Type 0} (scatter : S → ℕ) (heads : ℕ) (v : Vertex S) → 0 < heads → bucket scatter heads v < heads
+pub bucket_within : {S : Type 0} (scatter : S → ℕ) (count : ℕ) (v : Vertex S) → 0 < count → bucket scatter count v < count
 unfolding bucket
-bucket_within scatter heads v h = mod-lt (mixed (scatter v.label) v.zero v.one) h
+bucket_within scatter count v h = mod-lt (mixed (scatter v.label) v.zero v.one) h
