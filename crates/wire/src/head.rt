@@ -25,7 +25,7 @@ pub(crate) fn be_word(a: u8, b: u8, c: u8, d: u8) -> u32
     u32::from_be_bytes([a, b, c, d])
 }
 
-// The first fourteen bytes taken apart, and the rest; nothing, where there are fewer.
+// The first fourteen bytes taken apart by one pattern, as the rules have it, and the rest; nothing, where there are fewer.
 pub fn split_head(bytes: &[u8]) -> Option<(Head, &[u8])>
     ensures head { head_part result ≡ (if nat_le HEAD_LENGTH (length bytes.now) then Some (head_of bytes.now) else None) }
     ensures rest { rest_part result ≡ (if nat_le HEAD_LENGTH (length bytes.now) then Some (drop HEAD_LENGTH bytes.now) else None) }
@@ -60,7 +60,7 @@ pub fn split_head(bytes: &[u8]) -> Option<(Head, &[u8])>
     Some((head, rest))
 }
 
-// Writes the head to the start of `out`.
+// Writes the head to the start of `out`, by one copy: of five copies nothing is proved as yet.
 pub fn write_head(head: Head, out: &mut [u8])
     requires { HEAD_LENGTH ≤ length out.old }
     ensures { out.new ≡ head_bytes head ++ drop HEAD_LENGTH out.old }
