@@ -8,9 +8,7 @@ last_waiting-last-requires g c = in_stack c.args.seen.now c.args.stack.now c.arg
 pub next_link-requires : goal.next_link-requires
 next_link-requires g c =
     record {
-      few = c.requires.walking.0;
       vertex = last_good c.args.seen.now c.args.stack.now c.args.course c.requires.room c.requires.walking c.if-course-eq0.false c.last_waiting-last.result c.last_waiting-last.ensures;
-      sparse = c.requires.walking.1;
       size = c.requires.size;
     }
 
