@@ -23,10 +23,7 @@ impl Seen<'_> {
         ensures { Stands self.now.places.now self.now.met n result }
     {
         let k = self.places[(n - 2) as usize].number;
-        if k >= self.met || self.places[k as usize].list != n {
-            return None;
-        }
-        Some(k)
+        (k < self.met && self.places[k as usize].list == n).then_some(k)
     }
 
     // Whether a link is a vertex that is not met yet.

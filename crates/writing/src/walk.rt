@@ -1,7 +1,7 @@
 // The walk from a list: a vertex's zero link, its one link, then the vertex itself, each vertex once. The vertices that
 // wait for their links lie on a stack in lent places; their numbers fall along it, so it is never deeper than there are
 // vertices.
-ghost use Rattle.std.specs.Prelude.{◌≡◌, ◌+◌, ◌-◌, ◌<◌, ◌≤◌, [], map, length, slice_set};
+ghost use Rattle.std.specs.Prelude.{◌≡◌, ◌+◌, ◌-◌, ◌<◌, ◌≤◌, ◌≢◌, [], map, length, slice_set, MatchOption};
 ghost use Rattle.ledger.specs.Diagrams.{Formed, Sound};
 ghost use Rattle.ledger.specs.Ledger.{codes, lay};
 ghost use Rattle.writing.specs.Met.{list_at, met_numbers};
@@ -47,12 +47,12 @@ fn push(stack: &mut [Place], depth: u32, n: u32)
     };
 }
 
-// The number that waits last.
-fn last_waiting(stack: &[Place], depth: u32) -> u32
-    requires { (0 < depth) × (depth ≤ length stack.now) }
-    ensures { result ≡ list_at stack.now (depth - 1) }
+// The number that waits last, if one waits.
+fn last_waiting(stack: &[Place], depth: u32) -> Option<u32>
+    requires { depth ≤ length stack.now }
+    ensures { MatchOption result (depth ≡ 0) (λ n. (depth ≢ 0) × (n ≡ list_at stack.now (depth - 1))) }
 {
-    stack[(depth - 1) as usize].list
+    stack[..depth as usize].last().map(|place| place.list)
 }
 
 // The last vertex that waits gives way to a link that is not met, or is met itself; nothing where none waits.
@@ -68,10 +68,7 @@ fn turn<S: Symbol, B: Shelf<S>>(
     ensures walking { Turns seen.old stack.old course result seen.new stack.new }
     ensures value { Sound S.Symbol.before (B.Shelf.vertices shelf.now) → TurnsTo S.Symbol.before (B.Shelf.vertices shelf.now) seen.old stack.old course result seen.new stack.new }
 {
-    if course.depth == 0 {
-        return None;
-    }
-    let last = last_waiting(stack, course.depth);
+    let last = last_waiting(stack, course.depth)?;
     let met = Seen {
         places: seen,
         met: course.met,
