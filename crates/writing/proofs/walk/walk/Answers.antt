@@ -1,6 +1,4 @@
-use Rattle.std.proofs.Common.{◌≤◌, length, ◌∙◌}
-use mathlib.Core.Path.{subst⁻¹}
-use Rattle.writing.specs.Met.{Sparse}
+use Rattle.std.proofs.Common.{◌∙◌}
 use Rattle.writing.proofs.Turning.{start_walks, start_leads, end_leads}
 use Rattle.writing.proofs.walk.walk.Goals as goal
 
@@ -21,13 +19,8 @@ loop-next-preserved g c = (
 pub loop-next-smaller : goal.loop-next-smaller
 loop-next-smaller g c = c.in-Some.ensures.walking.1
 
-pub returns : goal.returns
-returns g c =
+pub returns-clause-value : goal.returns-clause-value
+returns-clause-value g c = λ sound.
     let ends = c.in_default.ensures.walking in
-    let was = c.loop-next.invariant.0 in
-    record {
-      sparse = subst⁻¹ (λ s. (c.loop-next.course.met ≤ length s) × Sparse s c.loop-next.course.met) ends.1 (was.0, was.1);
-      value = λ sound.
-          end_leads g.S.Symbol.before (g.B.Shelf.vertices c.args.shelf.now) c.loop-next.seen c.turn.new.seen c.loop-next.stack c.loop-next.course ends.0 ends.1
-          ∙ c.loop-next.invariant.1 sound;
-    }
+    end_leads g.S.Symbol.before (g.B.Shelf.vertices c.args.shelf.now) c.loop-next.seen c.turn.new.seen c.loop-next.stack c.loop-next.course ends.0 ends.1
+    ∙ c.loop-next.invariant.1 sound
