@@ -74,14 +74,3 @@ pub fn put<S: Copy>(out: &mut [S], place: usize, symbol: S)
         out[place] = symbol;
     }
 }
-
-// Writes a text to the start of an output, and answers its length.
-pub fn write_text(text: &[u8], out: &mut [u8]) -> Result<usize, ShortOutput>
-    ensures { WrittenTo text.now out.old result out.new }
-{
-    if text.len() > out.len() {
-        return Err(ShortOutput);
-    }
-    out[..text.len()].copy_from_slice(text);
-    Ok(text.len())
-}
