@@ -144,7 +144,7 @@ line_written (join rule m n) h = rw (listed_decimal rule (decimal m ++ (32 ∷ d
 line_written (receive text) h = rw (text_complete text h)
 
 at_some : {A : Type 0} (P : A → Type 0) (o : Option A) (x : A) → Holds P o → o ≡ Some x → P x
-at_some P None x h e = absurd (let z : ◌≡◌ {A = ℕ} 0 1 = cc in omega arith)
+at_some P None x h e = absurd cc
 at_some P (Some y) x h e = let same : y ≡ x = cc in rw same at h
 
 pub line_says : (bs : List ℕ) (o : Option Line) → length bs ≤ 8192 → o ≡ line_of bs → (l : Line) → (o ≡ Some l) ↔ Says bs l
@@ -155,5 +155,5 @@ line_says bs o short e l = (
 
 -- nothing is found exactly if there is nothing to find
 pub none_says : {A : Type 0} (P : A → Type 0) (o : Option A) → ((x : A) → (o ≡ Some x) ↔ P x) → (o ≡ None) ↔ ((x : A) → P x → ⊥)
-none_says P None h = ((λ _ x p. let e = (h x).1 p in let z : ◌≡◌ {A = ℕ} 0 1 = cc in omega arith), λ _. refl)
-none_says P (Some y) h = ((λ e. absurd (let z : ◌≡◌ {A = ℕ} 0 1 = cc in omega arith)), λ k. absurd (k y ((h y).0 refl)))
+none_says P None h = ((λ _ x p. let e = (h x).1 p in cc), λ _. refl)
+none_says P (Some y) h = ((λ e. absurd cc), λ k. absurd (k y ((h y).0 refl)))

@@ -6,7 +6,8 @@ use Rattle.std.proofs.lemmas.Bool.{ltb-true, ltb-false, lt-ltb, le-ltb, leb-true
 use Rattle.std.specs.Option.{option_map}
 use Rattle.std.specs.Int.{IsInRange}
 use Rattle.std.specs.List.{AllByRecursion}
-use Rattle.commands.specs.Reading.{onto, grown, number_after, plain, number_of, narrow, narrow_of}
+use Rattle.texts.specs.Decimals.{pushed}
+use Rattle.commands.specs.Reading.{onto, number_after, plain, number_of, narrow, narrow_of}
 
 -- what was found has the property
 abbrev pub Holds : {A : Type 0} → (A → Type 0) → Option A → Type 0
@@ -47,7 +48,7 @@ decimal_figures n h = digits_decimal own n h
 abbrev Grown : ℕ → ℕ → ℕ → Type 0
 Grown n b m = (m < 2 ^ 64) × IsInRange 48 57 b × (m ≡ n * 10 + (b - 48))
 
-grown_sound : (n b : ℕ) → Holds (Grown n b) (grown n b)
+grown_sound : (n b : ℕ) → Holds (Grown n b) (pushed n b)
 grown_sound n b =
     holds_cond (Grown n b) (leb 48 b && leb b 57 && ltb (n * 10 + (b - 48)) 18446744073709551616) (n * 10 + (b - 48)) None
     (λ e.
@@ -62,14 +63,14 @@ After n ds m = (m < 2 ^ 64) × Figures ds × (m ≡ read_on n ds)
 after_sound : (n : ℕ) (ds : List ℕ) → n < 2 ^ 64 → Holds (After n ds) (number_after n ds)
 after_sound n [] h = (h, tt, refl)
 after_sound n (b ∷ bs) h =
-    holds_onto (Grown n b) (After n (b ∷ bs)) (λ m. number_after m bs) (grown n b) (grown_sound n b)
+    holds_onto (Grown n b) (After n (b ∷ bs)) (λ m. number_after m bs) (pushed n b) (grown_sound n b)
     (λ m g.
     holds_weaker (After m bs) (After n (b ∷ bs)) (number_after m bs) (after_sound m bs g.0)
     (λ k a. (a.0, (g.1, a.1), a.2 ∙ ap (λ x. read_on x bs) g.2)))
 
 -- plain digits have no leading zero
 plain_first : (ds : List ℕ) → plain ds ≡ true → (0 < length ds) × (get_or ds 0 0 ≡ 48 → length ds ≡ 1)
-plain_first [] h = absurd (let z : ◌≡◌ {A = ℕ} 0 1 = cc in omega arith)
+plain_first [] h = absurd cc
 plain_first (b ∷ []) h = (omega arith, λ _. refl)
 plain_first (b ∷ c ∷ bs) h = (omega arith, λ e. absurd (eqb-false b 48 (not-true _ h) e))
 
@@ -97,7 +98,7 @@ pub narrow_sound : (ds : List ℕ) → Holds (Number 32 ds) (narrow_of ds)
 narrow_sound ds = holds_onto (Number 64 ds) (Number 32 ds) narrow (number_of ds) (number_sound ds) (λ n h. narrow_by ds n (ltb 4294967295 n) refl h)
 
 -- the decimal of a number is read as that number
-grown_digit : (n d : ℕ) → d < 10 → n * 10 + d < 2 ^ 64 → grown n (48 + d) ≡ Some (n * 10 + d)
+grown_digit : (n d : ℕ) → d < 10 → n * 10 + d < 2 ^ 64 → pushed n (48 + d) ≡ Some (n * 10 + d)
 grown_digit n d h k =
     let same : 48 + d - 48 ≡ d = omega arith in
     let low : leb 48 (48 + d) ≡ true = le-leb _ _ (omega arith) in
@@ -105,15 +106,15 @@ grown_digit n d h k =
     let fits : ltb (n * 10 + d) 18446744073709551616 ≡ true = lt-ltb _ _ (omega arith) in
     rw (same, low, high, fits)
 
-after_push : (n : ℕ) (ds : List ℕ) (b : ℕ) → number_after n (ds ++ (b ∷ [])) ≡ onto (λ m. grown m b) (number_after n ds)
-after_push n [] b = single (grown n b)
+after_push : (n : ℕ) (ds : List ℕ) (b : ℕ) → number_after n (ds ++ (b ∷ [])) ≡ onto (λ m. pushed m b) (number_after n ds)
+after_push n [] b = single (pushed n b)
   where
     single : (o : Option ℕ) → onto (λ m. Some m) o ≡ o
     single None = refl
     single (Some x) = refl
-after_push n (d ∷ ds) b = through (grown n d) (λ m. after_push m ds b)
+after_push n (d ∷ ds) b = through (pushed n d) (λ m. after_push m ds b)
   where
-    through : (o : Option ℕ) → ((m : ℕ) → number_after m (ds ++ (b ∷ [])) ≡ onto (λ k. grown k b) (number_after m ds)) → onto (λ m. number_after m (ds ++ (b ∷ []))) o ≡ onto (λ k. grown k b) (onto (λ m. number_after m ds) o)
+    through : (o : Option ℕ) → ((m : ℕ) → number_after m (ds ++ (b ∷ [])) ≡ onto (λ k. pushed k b) (number_after m ds)) → onto (λ m. number_after m (ds ++ (b ∷ []))) o ≡ onto (λ k. pushed k b) (onto (λ m. number_after m ds) o)
     through None h = refl
     through (Some x) h = h x
 
@@ -122,7 +123,7 @@ after_decimal n h =
     decimal_by_steps (λ m ds. m < 2 ^ 64 → number_after 0 ds ≡ Some m)
     (λ m small _. after_push 0 [] (48 + m) ∙ grown_digit 0 m small (omega arith) ∙ ap (λ k. Some k) (omega arith))
     (λ m ds big before fits.
-    after_push 0 ds (48 + m % 10) ∙ ap (onto (λ k. grown k (48 + m % 10))) (before (omega arith))
+    after_push 0 ds (48 + m % 10) ∙ ap (onto (λ k. pushed k (48 + m % 10))) (before (omega arith))
     ∙ grown_digit (m / 10) (m % 10) (omega arith) (omega arith)
     ∙ ap (λ k. Some k) (omega arith))
     n h h

@@ -1,7 +1,8 @@
 -- Fields and numbers of a line.
 use Rattle.std.proofs.Common.{◌≡◌, ℕ, zero, suc, ◌+◌, ◌-◌, ◌<◌, ◌≤◌, true, false, eqb, List, [], ◌∷◌, length, get_or, take, drop, Some, None, Option, sym, refl, ap, ◌∙◌, add-one, arith, length-drop, take_all, drop-cons, eq-eqb, ne_eqb}
 use Rattle.std.proofs.lemmas.List.{drop_all}
-use Rattle.commands.specs.Reading.{field_of, number_after, number_of, onto, grown, plain}
+use Rattle.texts.specs.Decimals.{pushed}
+use Rattle.commands.specs.Reading.{field_of, number_after, number_of, onto, plain}
 
 pub field_none : (bs : List ℕ) → ((k : ℕ) → k < length bs → get_or bs k 0 ≡ 32 → ⊥) → field_of bs ≡ None
 field_none [] h = refl
@@ -29,14 +30,14 @@ cut bs i =
 pub number_plain : (bs : List ℕ) → plain bs ≡ true → number_of bs ≡ number_after 0 bs
 number_plain bs h = rw h
 
-number_step : (n : ℕ) (bs : List ℕ) (i : ℕ) → i < length bs → number_after n (drop i bs) ≡ onto (λ m. number_after m (drop (i + 1) bs)) (grown n (get_or bs i 0))
+number_step : (n : ℕ) (bs : List ℕ) (i : ℕ) → i < length bs → number_after n (drop i bs) ≡ onto (λ m. number_after m (drop (i + 1) bs)) (pushed n (get_or bs i 0))
 number_step n bs i l = rw (add-one, drop-cons bs i 0)
 
 -- one digit more, and a byte that is none
-pub number_more : (n m : ℕ) (bs : List ℕ) (i : ℕ) → i < length bs → Some m ≡ grown n (get_or bs i 0) → number_after n (drop i bs) ≡ number_after m (drop (i + 1) bs)
+pub number_more : (n m : ℕ) (bs : List ℕ) (i : ℕ) → i < length bs → Some m ≡ pushed n (get_or bs i 0) → number_after n (drop i bs) ≡ number_after m (drop (i + 1) bs)
 number_more n m bs i l e = number_step n bs i l ∙ ap (onto (λ k. number_after k (drop (i + 1) bs))) (sym e)
 
-pub number_stops : (n : ℕ) (bs : List ℕ) (i : ℕ) → i < length bs → None ≡ grown n (get_or bs i 0) → number_after n (drop i bs) ≡ None
+pub number_stops : (n : ℕ) (bs : List ℕ) (i : ℕ) → i < length bs → None ≡ pushed n (get_or bs i 0) → number_after n (drop i bs) ≡ None
 number_stops n bs i l e = number_step n bs i l ∙ ap (onto (λ k. number_after k (drop (i + 1) bs))) (sym e)
 
 pub number_end : (n : ℕ) (bs : List ℕ) (i : ℕ) → length bs ≤ i → number_after n (drop i bs) ≡ Some n

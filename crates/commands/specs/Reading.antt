@@ -1,9 +1,10 @@
 -- Reading from left to right, as a computation: a means of the proofs. What is to be found is said in Grammar and
 -- Hexadecimals.
-use Rattle.std.specs.Prelude.{ℕ, ◌+◌, ◌-◌, ◌*◌, ◌%◌, Bool, true, false, cond, not, ◌&&◌, ◌||◌, List, [], ◌∷◌, length, Some, None, codes, Option, ◌==◌, nat_le, nat_lt}
+use Rattle.std.specs.Prelude.{ℕ, ◌%◌, Bool, true, false, cond, not, ◌&&◌, ◌||◌, List, [], ◌∷◌, length, Some, None, codes, Option, ◌==◌, nat_le, nat_lt}
 use Rattle.std.specs.Borrow.{Bor}
 use Rattle.std.specs.Option.{option_map}
 use Rattle.std.specs.Str.{bytes_eq}
+use Rattle.texts.specs.Decimals.{pushed}
 use Rattle.commands.specs.declared.command.Word.{Word}
 use Rattle.commands.specs.declared.command.Word.TheVariants as words
 use Rattle.commands.specs.Grammar.{Line, add, remove, holds, under, count, write, pick, join, receive}
@@ -30,15 +31,10 @@ abbrev pub field_of : List ℕ → Option (List ℕ × List ℕ)
 field_of [] = None
 field_of (b ∷ bs) = cond (b == 32) (Some ([], bs)) (longer b (field_of bs))
 
--- one more digit of a number, if it stays below 2 ^ 64
-abbrev pub grown : ℕ → ℕ → Option ℕ
-grown n b =
-    cond (nat_le 48 b && nat_le b 57 && nat_lt (n * 10 + (b - 48)) 18446744073709551616) (Some (n * 10 + (b - 48))) None
-
 -- the number that digits write after n
 abbrev pub number_after : ℕ → List ℕ → Option ℕ
 number_after n [] = Some n
-number_after n (b ∷ bs) = onto (λ m. number_after m bs) (grown n b)
+number_after n (b ∷ bs) = onto (λ m. number_after m bs) (pushed n b)
 
 -- some digits, with no zero that leads others
 abbrev pub plain : List ℕ → Bool

@@ -71,28 +71,12 @@ fn read_fields<'a>(word: Word, text: &'a [u8]) -> Option<Command<'a>>
     ensures { option_map meaning result ≡ fields_of text.now word }
 {
     match word {
-        Word::Add => {
-            let (list, code) = split_u32(text)?;
-            Some(Command::Add { list, code })
-        }
-        Word::Remove => {
-            let (list, code) = split_u32(text)?;
-            Some(Command::Remove { list, code })
-        }
-        Word::Holds => {
-            let (list, code) = split_u32(text)?;
-            Some(Command::Holds { list, code })
-        }
-        Word::Under => {
-            let (list, code) = split_u32(text)?;
-            Some(Command::Under { list, code })
-        }
-        Word::Count => Some(Command::Count {
-            list: read_u32(text)?,
-        }),
-        Word::Write => Some(Command::Write {
-            list: read_u32(text)?,
-        }),
+        Word::Add => split_u32(text).map(|(list, code)| Command::Add { list, code }),
+        Word::Remove => split_u32(text).map(|(list, code)| Command::Remove { list, code }),
+        Word::Holds => split_u32(text).map(|(list, code)| Command::Holds { list, code }),
+        Word::Under => split_u32(text).map(|(list, code)| Command::Under { list, code }),
+        Word::Count => read_u32(text).map(|list| Command::Count { list }),
+        Word::Write => read_u32(text).map(|list| Command::Write { list }),
         Word::Pick => {
             let (list, rest) = split_u32(text)?;
             let k = read_u64(rest)?;

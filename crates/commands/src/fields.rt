@@ -2,7 +2,9 @@
 ghost use Rattle.std.specs.Prelude.{◌≡◌, Decides};
 ghost use Rattle.std.specs.Option.{option_map};
 ghost use Rattle.std.specs.Str.{bytes_eq};
-ghost use Rattle.commands.specs.Reading.{field_of, texts, grown, plain, number_of, narrow_of, listed, listed_text};
+ghost use Rattle.commands.specs.Reading.{field_of, texts, plain, number_of, narrow_of, listed, listed_text};
+
+use texts::decimals::push_digit;
 
 // Whether a word is this one.
 pub fn is_word(word: &[u8], name: &[u8]) -> bool
@@ -22,16 +24,6 @@ pub fn split_field<'a>(text: &'a [u8]) -> Option<(&'a [u8], &'a [u8])>
         }
     }
     None
-}
-
-// One more digit of a number of 64 bits.
-fn push_digit(n: u64, b: u8) -> Option<u64>
-    ensures { result ≡ grown n b }
-{
-    if b < b'0' || b > b'9' {
-        return None;
-    }
-    n.checked_mul(10)?.checked_add(u64::from(b - b'0'))
 }
 
 // Whether there is a first digit, and no zero that leads others.

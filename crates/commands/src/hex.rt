@@ -2,10 +2,11 @@
 // is tested whole before anything is written.
 ghost use Rattle.std.specs.Prelude.{◌≡◌, ℕ, ◌/◌, ◌%◌, ◌<◌, true, List};
 ghost use Rattle.commands.specs.Hexadecimals.{digit, hexadecimal, Writes};
-ghost use Rattle.commands.specs.Outputs.{Puts, Decodes};
+ghost use Rattle.texts.specs.Texts.{WrittenTo};
+ghost use Rattle.commands.specs.Outputs.{Decodes};
 ghost use Rattle.commands.specs.Reading.{is_digit, is_text};
 
-use crate::output::TooShort;
+use symbols::ShortOutput;
 
 // Why hexadecimal text is refused.
 #[derive(Clone, Copy, Debug, PartialEq, Eq)]
@@ -79,11 +80,11 @@ pub fn decode_hex(hex: &[u8], out: &mut [u8]) -> Result<usize, HexFault>
 }
 
 // Puts the hexadecimal text of bytes at the start of `out`, and answers how long it is.
-pub fn encode_hex(bytes: &[u8], out: &mut [u8]) -> Result<usize, TooShort>
-    ensures answer { Puts (hexadecimal bytes.now) out.old out.new result }
+pub fn encode_hex(bytes: &[u8], out: &mut [u8]) -> Result<usize, ShortOutput>
+    ensures answer { WrittenTo (hexadecimal bytes.now) out.old result out.new }
 {
     if out.len() / 2 < bytes.len() {
-        return Err(TooShort);
+        return Err(ShortOutput);
     }
     for (i, b) in bytes.iter().enumerate() {
         out[2 * i] = write_digit(*b / 16);

@@ -5,8 +5,6 @@
 
 pub mod answer;
 pub mod command;
-mod decimals;
 mod fields;
 pub mod hex;
 pub mod kinds;
-pub mod output;

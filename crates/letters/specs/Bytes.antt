@@ -2,9 +2,9 @@
 use Rattle.std.specs.Prelude.{◌≡◌, ℕ, zero, suc, ◌+◌, ◌-◌, ◌<◌, ◌≤◌, Bool, true, false, cond, ◌&&◌, List, [], ◌∷◌, length, get_or, Ok, Err, Result, ◌==◌, nat_le, slice_index, slice_index_or, refl}
 use Rattle.std.proofs.Common.{sym, ap, ◌∙◌, arith}
 use borrow.Author.Tests.{leb-true, eqb-true, clash}
-use Rattle.symbols.specs.Wire.{Bytes}
+use Rattle.symbols.specs.Wire.{Bytes, WireLaws}
 use Rattle.symbols.specs.declared.SymbolFault.{SymbolFault}
-use Rattle.letters.specs.Letters.{byte_of, letters, letter_of}
+use Rattle.letters.specs.Letters.{byte_of, letters, letter_of, letter_travel}
 use Rattle.letters.specs.declared.Letter.{Letter}
 use Rattle.letters.specs.declared.Letter.TheVariants.{Space, Exclamation, Quote, Hash, Dollar, Percent, Ampersand, Apostrophe, LeftParen, RightParen, Asterisk, Plus, Comma, Minus, Dot, Slash, Digit0, Digit1, Digit2, Digit3, Digit4, Digit5, Digit6, Digit7, Digit8, Digit9, Colon, Semicolon, Less, Equal, Greater, Question, At, CapitalA, CapitalB, CapitalC, CapitalD, CapitalE, CapitalF, CapitalG, CapitalH, CapitalI, CapitalJ, CapitalK, CapitalL, CapitalM, CapitalN, CapitalO, CapitalP, CapitalQ, CapitalR, CapitalS, CapitalT, CapitalU, CapitalV, CapitalW, CapitalX, CapitalY, CapitalZ, LeftBracket, Backslash, RightBracket, Caret, Underscore, Backtick, SmallA, SmallB, SmallC, SmallD, SmallE, SmallF, SmallG, SmallH, SmallI, SmallJ, SmallK, SmallL, SmallM, SmallN, SmallO, SmallP, SmallQ, SmallR, SmallS, SmallT, SmallU, SmallV, SmallW, SmallX, SmallY, SmallZ, LeftBrace, Bar, RightBrace, Tilde}
 
@@ -142,10 +142,21 @@ byte_own b x e = go (nat_le 32 b && nat_le b 126) refl e
         let same : get_or letters (b - 32) Space ≡ x = cc in
         let at : byte_of (slice_index_or letters (b - 32) Space) ≡ 32 + (b - 32) = counted 32 letters (b - 32) refl (omega arith) in
         ap byte_of (sym same) ∙ at ∙ omega arith
-    go false h f = absurd (let z : ◌≡◌ {A = ℕ} 0 1 = cc in omega arith)
+    go false h f = absurd cc
 
 -- the one byte of a letter that travels
 pub wire_own : (bs : List ℕ) (x : Letter) → length bs ≡ 1 → Bytes bs → letter_of (slice_index bs 0) ≡ Ok x → (byte_of x ∷ []) ≡ bs
 wire_own [] x l k e = absurd (omega arith)
 wire_own (b ∷ []) x l k e = ap (λ v. v ∷ []) (byte_own b x e)
 wire_own (b ∷ c ∷ bs) x l k e = absurd (omega arith)
+
+-- the law of the bytes of letters
+pub letter_laws : WireLaws letter_travel
+letter_laws = record {
+  one_byte = omega arith;
+  some = omega arith;
+  few = omega arith;
+  long = λ x. refl;
+  back = byte_back;
+  own = wire_own;
+}

@@ -1,5 +1,6 @@
 -- A letter and its byte.
-use Rattle.std.specs.Prelude.{ℕ, ◌-◌, cond, ◌&&◌, List, [], ◌∷◌, Ok, Err, Result, nat_le, slice_index_or}
+use Rattle.std.specs.Prelude.{ℕ, ◌-◌, cond, ◌&&◌, List, [], ◌∷◌, Ok, Err, Result, nat_le, slice_index, slice_index_or}
+use Rattle.symbols.specs.Wire.{Travel}
 use Rattle.symbols.specs.declared.SymbolFault.{SymbolFault}
 use Rattle.letters.specs.declared.Letter.{Letter}
 use Rattle.letters.specs.declared.Letter.TheVariants.{Space, Exclamation, Quote, Hash, Dollar, Percent, Ampersand, Apostrophe, LeftParen, RightParen, Asterisk, Plus, Comma, Minus, Dot, Slash, Digit0, Digit1, Digit2, Digit3, Digit4, Digit5, Digit6, Digit7, Digit8, Digit9, Colon, Semicolon, Less, Equal, Greater, Question, At, CapitalA, CapitalB, CapitalC, CapitalD, CapitalE, CapitalF, CapitalG, CapitalH, CapitalI, CapitalJ, CapitalK, CapitalL, CapitalM, CapitalN, CapitalO, CapitalP, CapitalQ, CapitalR, CapitalS, CapitalT, CapitalU, CapitalV, CapitalW, CapitalX, CapitalY, CapitalZ, LeftBracket, Backslash, RightBracket, Caret, Underscore, Backtick, SmallA, SmallB, SmallC, SmallD, SmallE, SmallF, SmallG, SmallH, SmallI, SmallJ, SmallK, SmallL, SmallM, SmallN, SmallO, SmallP, SmallQ, SmallR, SmallS, SmallT, SmallU, SmallV, SmallW, SmallX, SmallY, SmallZ, LeftBrace, Bar, RightBrace, Tilde}
@@ -108,3 +109,7 @@ letters = Space ∷ Exclamation ∷ Quote ∷ Hash ∷ Dollar ∷ Percent ∷ Am
 -- the letter of a byte from 32 to 126, and the fault of any other
 abbrev pub letter_of : ℕ → Result Letter SymbolFault
 letter_of b = cond (nat_le 32 b && nat_le b 126) (Ok (slice_index_or letters (b - 32) Space)) (Err (record { byte = b }))
+
+-- letters travel as kind 1, each as its byte
+abbrev pub letter_travel : Travel Letter
+letter_travel = record { kind = 1; width = 1; bytes = λ x. byte_of x ∷ []; reads = λ bs. letter_of (slice_index bs 0) }

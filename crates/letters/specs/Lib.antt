@@ -1,4 +1,4 @@
-pub mod Codes
 pub mod Letters
+pub mod Codes
 pub mod Bytes
 pub mod Spelling

@@ -4,20 +4,16 @@
 // and a slash are letters like any other, and nothing is trimmed. Reading looks at each byte twice, writing at each letter once.
 #![tactic(auto)]
 
-ghost use Rattle.std.specs.Prelude.{◌≡◌, ◌*◌, ◌%◌, ◌^◌, ◌==◌, ◌↔◌, true, [], ◌∷◌, Ok, OnOk, nat_lt, slice_index, refl};
-ghost use Rattle.std.specs.Ordering.{on};
-ghost use Rattle.letters.specs.Letters.{byte_of, letter_of};
+ghost use Rattle.std.specs.Prelude.{◌≡◌, ◌*◌, ◌%◌, ◌^◌, ◌↔◌, true, Ok, OnOk, nat_lt};
+ghost use Rattle.letters.specs.Letters.{byte_of, letter_of, letter_travel};
 ghost use Rattle.letters.specs.Codes.{spelled, text_of};
-ghost use Rattle.texts.specs.Texts.{Begun, WrittenTo};
-ghost use Rattle.std.specs.Cmp.Rules.{comparing};
-ghost use Rattle.std.proofs.Common.{rules, arith};
-ghost use Rattle.std.specs.Cmp as Keys;
-ghost use Rattle.symbols.proofs.Coded.{by_code};
-ghost use Rattle.letters.specs.Bytes.{one_byte, byte_back, wire_own};
+ghost use Rattle.letters.specs.Bytes.{one_byte, letter_laws};
 ghost use Rattle.letters.specs.Spelling.{own_text};
+ghost use Rattle.symbols.proofs.Coded.{by_code};
+ghost use Rattle.texts.specs.Texts.{Begun, WrittenTo};
 
-use symbols::{Symbol, SymbolFault, WireSymbol, same};
-use texts::{ShortText, TextFault, TextSymbol, put};
+use symbols::{ShortOutput, Symbol, SymbolFault, WireSymbol};
+use texts::{TextFault, TextSymbol, put};
 
 // The number of this kind.
 const KIND: u8 = 1;
@@ -25,7 +21,7 @@ const KIND: u8 = 1;
 // The bytes that a letter takes.
 const WIDTH: usize = 1;
 
-#[derive(Clone, Copy, Debug)]
+#[derive(Clone, Copy, Debug, PartialEq, Eq)]
 pub enum Letter {
     Space = b' ' as isize,
     Exclamation = b'!' as isize,
@@ -124,11 +120,13 @@ pub enum Letter {
     Tilde = b'~' as isize,
 }
 
-impl Letter {
-    // The letter of a byte.
-    pub fn from_byte(b: u8) -> Result<Letter, SymbolFault>
-        ensures { result ≡ letter_of b }
-    {
+// The letter of a byte.
+impl TryFrom<u8> for Letter {
+    type Error = SymbolFault;
+
+    ghost try_from_gives = { λ b r. r ≡ letter_of b };
+
+    fn try_from(b: u8) -> Result<Letter, SymbolFault> {
         let letter = match b {
             b' ' => Letter::Space,
             b'!' => Letter::Exclamation,
@@ -229,30 +227,22 @@ impl Letter {
         };
         Ok(letter)
     }
+}
 
-    // The byte of a letter.
-    pub fn to_byte(self) -> u8
-        ensures { result ≡ byte_of self }
-    {
-        self as u8
+// The byte of a letter.
+impl From<Letter> for u8 {
+    ghost from_gives = { λ letter r. r ≡ byte_of letter };
+
+    fn from(letter: Letter) -> u8 {
+        letter as u8
     }
 }
 
-impl PartialEq for Letter {
-    ghost eq = { on byte_of ◌==◌ };
-
-    ghost laws = { Keys.partial_equiv_from_equiv (Prim.search (comparing, rules)) };
-
-    fn eq(&self, other: &Letter) -> bool
-        ensures value { result ≡ on byte_of ◌==◌ self.now other.now }
-        ensures same { (result ≡ true) ↔ (self.now ≡ other.now) }
-    {
-        same(*self, *other)
-    }
-}
-
-impl Eq for Letter {
-    ghost laws = { Prim.search (comparing, rules) };
+// Whether two letters are one and the same.
+pub fn same_letter(a: Letter, b: Letter) -> bool
+    ensures { (result ≡ true) ↔ (a ≡ b) }
+{
+    a == b
 }
 
 impl Symbol for Letter {
@@ -263,31 +253,18 @@ impl Symbol for Letter {
     ghost ordered = { by_code byte_of one_byte };
 
     fn before(self, other: Letter) -> bool {
-        self.to_byte() < other.to_byte()
+        u8::from(self) < u8::from(other)
     }
 
     fn scatter(self) -> u32 {
-        u32::from(self.to_byte()).wrapping_mul(2654435761)
+        u32::from(u8::from(self)).wrapping_mul(2654435761)
     }
 }
 
 impl WireSymbol for Letter {
-    ghost kind = { 1 };
+    ghost travel = { letter_travel };
 
-    ghost width = { 1 };
-
-    ghost bytes = { λ a. byte_of a ∷ [] };
-
-    ghost reads = { λ bs. letter_of (slice_index bs 0) };
-
-    ghost wired = { record {
-      one_byte = omega arith;
-      some = omega arith;
-      few = omega arith;
-      long = λ x. refl;
-      back = byte_back;
-      own = wire_own;
-    } };
+    ghost wired = { letter_laws };
 
     fn kind() -> u8 {
         KIND
@@ -298,11 +275,11 @@ impl WireSymbol for Letter {
     }
 
     fn write(self, out: &mut [u8]) {
-        out[0] = self.to_byte();
+        out[0] = u8::from(self);
     }
 
     fn read(from: &[u8]) -> Result<Letter, SymbolFault> {
-        Letter::from_byte(from[0])
+        Letter::try_from(from[0])
     }
 }
 
@@ -319,7 +296,7 @@ impl TextSymbol for Letter {
         read_letters(from, out)
     }
 
-    fn write_code(code: &[Letter], out: &mut [u8]) -> Result<usize, ShortText> {
+    fn write_code(code: &[Letter], out: &mut [u8]) -> Result<usize, ShortOutput> {
         write_letters(code, out)
     }
 }
@@ -329,22 +306,23 @@ fn read_letters(from: &[u8], out: &mut [Letter]) -> Result<usize, TextFault>
     ensures { Begun (spelled from.now) out.old result out.new }
 {
     for (i, b) in from.iter().enumerate() {
-        let letter = Letter::from_byte(*b)?;
+        let letter = Letter::try_from(*b)?;
         put(out, i, letter);
     }
     Ok(from.len())
 }
 
 // Writes the bytes of the letters of a code to the start of `out`, if there is room for all.
-fn write_letters(code: &[Letter], out: &mut [u8]) -> Result<usize, ShortText>
+fn write_letters(code: &[Letter], out: &mut [u8]) -> Result<usize, ShortOutput>
     ensures answer { WrittenTo (text_of code.now) out.old result out.new }
     ensures back { OnOk result (spelled (text_of code.now) ≡ Ok code.now) }
 {
     if code.len() > out.len() {
-        return Err(ShortText);
+        return Err(ShortOutput);
     }
+    // By index: what `iter_mut` lends leaves the rest of the slice untold.
     for (i, letter) in code.iter().enumerate() {
-        out[i] = letter.to_byte();
+        out[i] = u8::from(*letter);
     }
     Ok(code.len())
 }

@@ -58,11 +58,9 @@ length_laid at bs out h =
     let past = length-drop (at + length bs) out in
     omega arith
 
--- a byte right before those that stand
-pub set_before : (old last rest : List ℕ) (at b : ℕ) → at < length old → set (take (at + 1) old ++ (last ++ rest)) at b ≡ take at old ++ ((b ∷ last) ++ rest)
-set_before old last rest at b h =
-    ap (λ s. set (s ++ (last ++ rest)) at b) (take_more old at 0 h) ∙ ap (λ s. set s at b) (append_assoc (take at old) (get_or old at 0 ∷ []) (last ++ rest))
-    ∙ set_at (take at old) (get_or old at 0) (last ++ rest) b at (length-take-le at old (omega arith))
+-- bytes between two parts that stay
+pub laid_parts : (at r : ℕ) (bs old new : List ℕ) → r ≡ at → take r new ≡ take r old → drop r new ≡ bs ++ drop (at + length bs) old → new ≡ laid at bs old
+laid_parts at r bs old new e front back = sym (take-append-drop r new) ∙ (λ i. front i ++ back i) ∙ ap (λ k. take k old ++ (bs ++ drop (at + length bs) old)) e
 
 module _ {X : Type 0} (f : X → List ℕ) where
   joined-++ : (xs ys : List X) → flat_map f (xs ++ ys) ≡ flat_map f xs ++ flat_map f ys

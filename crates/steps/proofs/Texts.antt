@@ -1,10 +1,11 @@
 -- The lengths of texts, and a text written step after step.
-use Rattle.std.proofs.Common.{◌≡◌, ℕ, ◌+◌, ◌-◌, ◌<◌, ◌≤◌, List, ◌∷◌, length, get_or, take, set, decimal, sym, ap, ◌∙◌, arith, length-append}
+use Rattle.std.proofs.Common.{◌≡◌, ℕ, ◌+◌, ◌-◌, ◌<◌, ◌≤◌, ◌↔◌, List, ◌∷◌, length, get_or, take, Some, None, decimal, Option, sym, ap, ◌∙◌, arith, length-append}
 use Rattle.std.proofs.lemmas.List.{take_all}
 use Rattle.std.specs.List.{flat_map}
+use Rattle.std.specs.Option.{IsSome}
 use Rattle.steps.specs.Paths.{step_text, slashed, text_of, laid}
 use Rattle.steps.specs.declared.Step.{Step}
-use Rattle.steps.proofs.Laying.{fronted, laid_first, laid_after, laid_on, joined_next, joined_part}
+use Rattle.steps.proofs.Laying.{fronted, laid_first, laid_on, joined_next, joined_part}
 
 pub length_text : (first : Step) (rest : List Step) → length (text_of (first ∷ rest)) ≡ length (step_text first) + length (flat_map slashed rest)
 length_text first rest = length-append (step_text first) (flat_map slashed rest)
@@ -12,10 +13,7 @@ length_text first rest = length-append (step_text first) (flat_map slashed rest)
 pub length_next : (rest : List Step) (i : ℕ) (d : Step) → i < length rest → length (flat_map slashed (take (i + 1) rest)) ≡ length (flat_map slashed (take i rest)) + (1 + length (step_text (get_or rest i d)))
 length_next rest i d h = ap length (joined_next slashed rest i d h) ∙ length-append (flat_map slashed (take i rest)) (slashed (get_or rest i d)) ∙ omega arith
 
--- a step that fits, and one that does not, by what is left after the steps before it
-pub fits_next : (rest : List Step) (i k left less start : ℕ) (d : Step) → i < length rest → k ≡ length (decimal (get_or rest i d).number) → left + length (flat_map slashed (take i rest)) ≡ start → (2 + k ≤ left) × (less ≡ left - (2 + k)) → less + length (flat_map slashed (take (i + 1) rest)) ≡ start
-fits_next rest i k left less start d h e inv p = let next = length_next rest i d h in let fit = p.0 in let is = p.1 in omega arith
-
+-- a step that does not fit what is left after the steps before it
 pub fits_no_more : (rest : List Step) (i k left start : ℕ) (d : Step) → i < length rest → k ≡ length (decimal (get_or rest i d).number) → left + length (flat_map slashed (take i rest)) ≡ start → (2 + k ≤ left → ⊥) → start < length (flat_map slashed rest)
 fits_no_more rest i k left start d h e inv p =
     let next = length_next rest i d h in
@@ -23,8 +21,17 @@ fits_no_more rest i k left start d h e inv p =
     let short : left < 2 + k = omega arith in
     omega arith
 
+-- and then there is no room for all
+pub no_room : (first : Step) (rest : List Step) (room start k : ℕ) (r : Option ℕ) → r ≡ None → k ≡ length (decimal first.number) → (1 + k ≤ room) × (start ≡ room - (1 + k)) → start < length (flat_map slashed rest) → IsSome r ↔ (length (text_of (first ∷ rest)) ≤ room)
+no_room first rest room start k None none e p h =
+    let whole = length_text first rest in
+    let fit = p.0 in
+    let is = p.1 in
+    (λ q. absurd cc, λ all. absurd (omega arith))
+no_room first rest room start k (Some n) none e p h = absurd cc
+
 -- there is room for the next step and its slash
-pub room_next : (first : Step) (rest : List Step) (i a at n : ℕ) (d : Step) → i < length rest → a ≡ 0 + length (step_text first) → at ≡ a + length (flat_map slashed (take i rest)) → length (text_of (first ∷ rest)) ≤ n → at + 1 + length (step_text (get_or rest i d)) ≤ n
+pub room_next : (first : Step) (rest : List Step) (i a at n : ℕ) (d : Step) → i < length rest → a ≡ 0 + length (step_text first) → at ≡ a + length (flat_map slashed (take i rest)) → length (text_of (first ∷ rest)) ≤ n → at + length (slashed (get_or rest i d)) ≤ n
 room_next first rest i a at n d h e inv fits =
     let whole = length_text first rest in
     let next = length_next rest i d h in
@@ -32,13 +39,12 @@ room_next first rest i a at n d h e inv fits =
     omega arith
 
 -- the next step behind its slash
-pub end_next : (rest : List Step) (i a at r : ℕ) (d : Step) → i < length rest → at ≡ a + length (flat_map slashed (take i rest)) → r ≡ at + 1 + length (step_text (get_or rest i d)) → r ≡ a + length (flat_map slashed (take (i + 1) rest))
+pub end_next : (rest : List Step) (i a at r : ℕ) (d : Step) → i < length rest → at ≡ a + length (flat_map slashed (take i rest)) → r ≡ at + length (slashed (get_or rest i d)) → r ≡ a + length (flat_map slashed (take (i + 1) rest))
 end_next rest i a at r d h inv e = let next = length_next rest i d h in omega arith
 
-pub written_next : (rest : List Step) (i a at : ℕ) (out new start : List ℕ) (d : Step) → i < length rest → a ≤ length start → at < length out → at ≡ a + length (flat_map slashed (take i rest)) → out ≡ laid a (flat_map slashed (take i rest)) start → new ≡ laid (at + 1) (step_text (get_or rest i d)) (set out at 47) → new ≡ laid a (flat_map slashed (take (i + 1) rest)) start
-written_next rest i a at out new start d h l m e inv after =
-    after ∙ laid_after at 47 (step_text (get_or rest i d)) out m ∙ ap (laid at (slashed (get_or rest i d))) inv ∙ laid_on a at (flat_map slashed (take i rest)) (slashed (get_or rest i d)) start l e
-    ∙ ap (λ s. laid a s start) (sym (joined_next slashed rest i d h))
+pub written_next : (rest : List Step) (i a at : ℕ) (out new start : List ℕ) (d : Step) → i < length rest → a ≤ length start → at ≡ a + length (flat_map slashed (take i rest)) → out ≡ laid a (flat_map slashed (take i rest)) start → new ≡ laid at (slashed (get_or rest i d)) out → new ≡ laid a (flat_map slashed (take (i + 1) rest)) start
+written_next rest i a at out new start d h l e inv after =
+    after ∙ ap (laid at (slashed (get_or rest i d))) inv ∙ laid_on a at (flat_map slashed (take i rest)) (slashed (get_or rest i d)) start l e ∙ ap (λ s. laid a s start) (sym (joined_next slashed rest i d h))
 
 -- all steps are written
 pub end_all : (first : Step) (rest : List Step) (i a at : ℕ) → length rest ≤ i → a ≡ 0 + length (step_text first) → at ≡ a + length (flat_map slashed (take i rest)) → at ≡ length (text_of (first ∷ rest))
@@ -50,6 +56,3 @@ end_all first rest i a at h e inv =
 pub written_all : (first : Step) (rest : List Step) (i a : ℕ) (out start old : List ℕ) → length rest ≤ i → a ≡ 0 + length (step_text first) → out ≡ laid a (flat_map slashed (take i rest)) start → start ≡ laid 0 (step_text first) old → out ≡ fronted (text_of (first ∷ rest)) old
 written_all first rest i a out start old h e inv was =
     inv ∙ (λ j. laid a (flat_map slashed (take_all i rest h j)) (was j)) ∙ laid_on 0 a (step_text first) (flat_map slashed rest) old (omega arith) e ∙ laid_first (text_of (first ∷ rest)) old
-
-pub fits_all : (rest : List Step) (i left start : ℕ) → length rest ≤ i → left + length (flat_map slashed (take i rest)) ≡ start → length (flat_map slashed rest) ≤ start
-fits_all rest i left start h inv = let all = ap (λ s. length (flat_map slashed s)) (take_all i rest h) in omega arith

@@ -1,12 +1,13 @@
 -- The turns of a reading: the steps so far, and those that what remains of the text gives.
-use Rattle.std.proofs.Common.{◌≡◌, ℕ, ◌+◌, ◌<◌, ◌≤◌, Bool, true, false, cond, eqb, List, [], ◌∷◌, ◌++◌, length, get_or, drop, set, Some, None, Option, sym, refl, ap, ◌∙◌, subst, append_assoc, arith}
+use Rattle.std.proofs.Common.{◌≡◌, ℕ, ◌+◌, ◌<◌, ◌≤◌, Bool, true, false, cond, eqb, List, [], ◌∷◌, ◌++◌, length, get_or, drop, set, Some, None, Option, ◌==◌, sym, refl, ap, ◌∙◌, subst, append_assoc, arith}
 use Rattle.std.proofs.lemmas.List.{append-nil, drop_more, drop_all, length_push}
 use Rattle.std.specs.Option.{option_map, ok_or}
 use Rattle.texts.proofs.Filling.{filled_more}
 use Rattle.texts.specs.Texts.{filled}
 use Rattle.texts.specs.declared.TextFault.TheVariants.{Unreadable}
 use Rattle.steps.specs.Units.{unit_of_letter}
-use Rattle.steps.specs.Stages.{digit_of, grown, within, numbered, turned, with_done, ended, gone_on, Kept, steps_from, spelled}
+use Rattle.texts.specs.Decimals.{digit_of}
+use Rattle.steps.specs.Stages.{grown, within, numbered, turned, with_done, ended, gone_on, Kept, steps_from, spelled}
 use Rattle.steps.specs.declared.Step.{Step}
 use Rattle.steps.specs.declared.reading.Stage.{Stage}
 use Rattle.steps.specs.declared.reading.Stage.TheVariants.{Start, Lettered, Numbered}
@@ -45,8 +46,8 @@ turn_stops all from stage i code l h e = h ∙ ap (onto code) (from_turn from st
 pub turn_ends : (all : Option (List Step)) (from : List ℕ) (stage : Stage) (i : ℕ) (code : List Step) → length from ≤ i → all ≡ onto code (steps_from stage (drop i from)) → all ≡ onto code (ended stage)
 turn_ends all from stage i code l h = h ∙ ap (λ bs. onto code (steps_from stage bs)) (drop_all i from l)
 
-pub spelled_some : (from : List ℕ) (o : Option (List Step)) → (length from ≡ 0 → ⊥) → steps_from Start from ≡ o → spelled from ≡ ok_or o Unreadable
-spelled_some [] o h e = absurd (h refl)
+pub spelled_some : (from : List ℕ) (o : Option (List Step)) → (length from == 0) ≡ false → steps_from Start from ≡ o → spelled from ≡ ok_or o Unreadable
+spelled_some [] o h e = absurd cc
 spelled_some (b ∷ bs) o h e = ap (λ p. ok_or p Unreadable) e
 
 -- a step that has ended is the next of the code

@@ -1,29 +1,11 @@
--- A number's digits: how many, and one more.
-use Rattle.std.specs.Prelude.{◌≡◌, ℕ, ◌+◌, ◌*◌, ◌/◌, ◌%◌, ◌^◌, ◌<◌, ◌≤◌, [], ◌∷◌, ◌++◌, length, decimal}
-use Rattle.std.proofs.Common.{ap, ◌∙◌, arith, length-append}
-use Rattle.std.proofs.lemmas.Fmt.{decimal_digit, decimal_step}
+-- A number's digits: one more.
+use Rattle.std.specs.Prelude.{◌≡◌, ℕ, ◌+◌, ◌*◌, ◌/◌, ◌%◌, ◌^◌, ◌<◌, ◌≤◌, [], ◌∷◌, ◌++◌, decimal}
+use Rattle.std.proofs.Common.{◌∙◌, arith}
+use Rattle.std.proofs.lemmas.Fmt.{decimal_step}
 
 -- a number of 16 bits is one of 64
 pub wide : (n : ℕ) → n < 65536 → n < 2 ^ 64
 wide n h = omega arith
-
-pub digits_1 : (n : ℕ) → n < 10 → length (decimal n) ≡ 1
-digits_1 n h = ap length (decimal_digit n h)
-
-more : (n k : ℕ) → 10 ≤ n → n < 65536 → length (decimal (n / 10)) ≡ k → length (decimal n) ≡ k + 1
-more n k l h e = ap length (decimal_step n l (wide n h)) ∙ length-append (decimal (n / 10)) ((48 + n % 10) ∷ []) ∙ ap (λ m. m + 1) e
-
-pub digits_2 : (n : ℕ) → 10 ≤ n → n < 100 → length (decimal n) ≡ 2
-digits_2 n l h = more n 1 l (omega arith) (digits_1 (n / 10) (omega arith))
-
-pub digits_3 : (n : ℕ) → 100 ≤ n → n < 1000 → length (decimal n) ≡ 3
-digits_3 n l h = more n 2 (omega arith) (omega arith) (digits_2 (n / 10) (omega arith) (omega arith))
-
-pub digits_4 : (n : ℕ) → 1000 ≤ n → n < 10000 → length (decimal n) ≡ 4
-digits_4 n l h = more n 3 (omega arith) (omega arith) (digits_3 (n / 10) (omega arith) (omega arith))
-
-pub digits_5 : (n : ℕ) → 10000 ≤ n → n < 65536 → length (decimal n) ≡ 5
-digits_5 n l h = more n 4 (omega arith) h (digits_4 (n / 10) (omega arith) (omega arith))
 
 -- one digit more behind a number that is not 0
 pub decimal_more : (n d : ℕ) → 1 ≤ n → d < 10 → n * 10 + d < 65536 → decimal (n * 10 + d) ≡ decimal n ++ (48 + d) ∷ []

@@ -10,7 +10,8 @@ use Rattle.texts.specs.declared.TextFault.{TextFault}
 use Rattle.texts.specs.declared.TextFault.TheVariants.{Unreadable}
 use Rattle.steps.specs.Units.{unit_letter, unit_of_letter}
 use Rattle.steps.specs.Paths.{step_text, slashed, text_of, Short, Exact}
-use Rattle.steps.specs.Stages.{digit_of, grown, within, numbered, turned, with_done, gone_on, steps_from, spelled}
+use Rattle.texts.specs.Decimals.{digit_of}
+use Rattle.steps.specs.Stages.{grown, within, numbered, turned, with_done, gone_on, steps_from, spelled}
 use Rattle.steps.specs.declared.Step.{Step}
 use Rattle.steps.specs.declared.Unit.{Unit as Kind}
 use Rattle.steps.specs.declared.reading.Stage.{Stage}
@@ -32,7 +33,7 @@ grown_back : (n d m : ℕ) → 1 ≤ n → d < 10 → m < 65536 → m ≡ n * 10
 grown_back n d m l h s e = grind (arith, nat_tests)
 
 pub mapped_own : {A B : Type 0} (f : A → B) (o : Option A) (t : B) → option_map f o ≡ Some t → (x : A) × (o ≡ Some x) × (f x ≡ t)
-mapped_own f None t e = absurd (let z : ◌≡◌ {A = ℕ} 0 1 = cc in omega arith)
+mapped_own f None t e = absurd cc
 mapped_own f (Some x) t e = (x, refl, cc)
 
 none_done : (o : Option (List Step)) → option_map (with_done None) o ≡ o
@@ -109,15 +110,15 @@ turn_fine (Numbered s) b t p = go (b == 47) p
     go false e = let m = mapped_own (λ n. within (numbered s.unit n)) (grown s.number b) t e in subst P m.2 (grown_own s.number b m.0 m.1).4
 
 own_on : (bs : List ℕ) → ((stage : Stage) (code : List Step) → Fine stage → steps_from stage bs ≡ Some code → Own stage bs code) → (stage : Stage) (b : ℕ) (o : Option Turn) (code : List Step) → Fine stage → turned stage b ≡ o → gone_on (λ next. steps_from next bs) o ≡ Some code → Own stage (b ∷ bs) code
-own_on bs on stage b None code fine p e = absurd (let z : ◌≡◌ {A = ℕ} 0 1 = cc in omega arith)
+own_on bs on stage b None code fine p e = absurd cc
 own_on bs on stage b (Some t) code fine p e =
     let m = mapped_own (with_done t.done) (steps_from t.next bs) code e in
     let rest = on t.next m.0 (turn_fine stage b t p) m.1 in
     subst (λ c. Own stage (b ∷ bs) c) m.2 (turn_own stage b t p fine bs m.0 rest)
 
 steps_own : (bs : List ℕ) (stage : Stage) (code : List Step) → Fine stage → steps_from stage bs ≡ Some code → Own stage bs code
-steps_own [] Start code fine e = absurd (let z : ◌≡◌ {A = ℕ} 0 1 = cc in omega arith)
-steps_own [] (Lettered u) code fine e = absurd (let z : ◌≡◌ {A = ℕ} 0 1 = cc in omega arith)
+steps_own [] Start code fine e = absurd cc
+steps_own [] (Lettered u) code fine e = absurd cc
 steps_own [] (Numbered s) code fine e =
     let same : s ∷ [] ≡ code = cc in
     let one : Own (Numbered s) [] (s ∷ []) = (refl, (fine, tt), omega arith) in
@@ -125,7 +126,7 @@ steps_own [] (Numbered s) code fine e =
 steps_own (b ∷ bs) stage code fine e = own_on bs (steps_own bs) stage b (turned stage b) code fine refl e
 
 ok_own : (o : Option (List Step)) (code : List Step) → ok_or {E = TextFault} o Unreadable ≡ Ok code → o ≡ Some code
-ok_own None code e = absurd (let z : ◌≡◌ {A = ℕ} 0 1 = cc in omega arith)
+ok_own None code e = absurd cc
 ok_own (Some c) code e = cc
 
 spelled_own : (t : List ℕ) (code : List Step) → spelled t ≡ Ok code → (text_of code ≡ t) × AllByRecursion Short code
@@ -176,10 +177,10 @@ text_back (s ∷ code) h = ap (λ o. ok_or o Unreadable) (step_read s h.0 (flat_
 
 fault_known : (o : Option (List Step)) (fault : TextFault) → ok_or o Unreadable ≡ Err fault → fault ≡ Unreadable
 fault_known None fault e = cc
-fault_known (Some code) fault e = absurd (let z : ◌≡◌ {A = ℕ} 0 1 = cc in omega arith)
+fault_known (Some code) fault e = absurd cc
 
 spelled_fails : (t : List ℕ) (fault : TextFault) → spelled t ≡ Err fault → fault ≡ Unreadable
-spelled_fails [] fault e = absurd (let z : ◌≡◌ {A = ℕ} 0 1 = cc in omega arith)
+spelled_fails [] fault e = absurd cc
 spelled_fails (b ∷ bs) fault e = fault_known (steps_from Start (b ∷ bs)) fault e
 
 pub exact : (t : List ℕ) → Exact t (spelled t)

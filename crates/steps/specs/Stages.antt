@@ -1,6 +1,7 @@
 -- Reading a code of steps a byte at a time: the means by which a text is found to spell a code, or none.
 use Rattle.std.specs.Prelude.{◌≡◌, ℕ, ◌+◌, ◌-◌, ◌*◌, cond, not, ◌&&◌, List, [], ◌∷◌, Some, None, Ok, Option, Result, ◌==◌, nat_le, nat_lt, slice_set}
 use Rattle.std.specs.Option.{option_map, ok_or}
+use Rattle.texts.specs.Decimals.{digit_of}
 use Rattle.texts.specs.declared.TextFault.{TextFault}
 use Rattle.texts.specs.declared.TextFault.TheVariants.{Unreadable}
 use Rattle.steps.specs.Units.{unit_of_letter}
@@ -9,10 +10,6 @@ use Rattle.steps.specs.declared.Unit.{Unit as Kind}
 use Rattle.steps.specs.declared.reading.Stage.{Stage}
 use Rattle.steps.specs.declared.reading.Stage.TheVariants.{Start, Lettered, Numbered}
 use Rattle.steps.specs.declared.reading.Turn.{Turn}
-
--- the digit that a byte is
-abbrev pub digit_of : ℕ → Option ℕ
-digit_of b = cond (nat_le 48 b && nat_le b 57) (Some (b - 48)) None
 
 -- one digit more of a number, if it has no leading zero and stays below 2 ^ 16
 abbrev pub grown : ℕ → ℕ → Option ℕ

@@ -1,6 +1,7 @@
 -- Units, steps, and their bytes.
 use Rattle.std.specs.Prelude.{ℕ, ◌+◌, ◌*◌, ◌/◌, ◌%◌, Bool, cond, List, [], ◌∷◌, Some, None, Ok, Err, Option, Result, ◌==◌, slice_index}
 use Rattle.symbols.specs.Order.{lower}
+use Rattle.symbols.specs.Wire.{Travel}
 use Rattle.symbols.specs.declared.SymbolFault.{SymbolFault}
 use Rattle.steps.specs.declared.Step.{Step}
 use Rattle.steps.specs.declared.Unit.{Unit as Kind}
@@ -41,6 +42,10 @@ with_number n (Err fault) = Err fault
 -- what three bytes read as
 abbrev pub step_of : List ℕ → Result Step SymbolFault
 step_of bs = with_number (slice_index bs 1 * 256 + slice_index bs 2) (unit_of (slice_index bs 0))
+
+-- steps travel as kind 2, each as its three bytes
+abbrev pub step_travel : Travel Step
+step_travel = record { kind = 2; width = 3; bytes = step_bytes; reads = step_of }
 
 -- the letter of a unit in a text: S T C B P M F
 abbrev pub unit_letter : Kind → ℕ

@@ -4,8 +4,8 @@ use Rattle.std.proofs.Common.{ap, arith, eqb-true}
 use Rattle.symbols.specs.declared.SymbolFault.{SymbolFault}
 use Rattle.symbols.proofs.Coded.{by_codes}
 use Rattle.symbols.specs.Order.{Order}
-use Rattle.symbols.specs.Wire.{Bytes}
-use Rattle.steps.specs.Units.{unit_byte, unit_of, earlier, step_bytes, step_of, with_number, unit_letter, unit_of_letter}
+use Rattle.symbols.specs.Wire.{Bytes, WireLaws}
+use Rattle.steps.specs.Units.{unit_byte, unit_of, earlier, step_bytes, step_of, step_travel, with_number, unit_letter, unit_of_letter}
 use Rattle.steps.specs.declared.Step.{Step}
 use Rattle.steps.specs.declared.Unit.{Unit as Kind}
 use Rattle.steps.specs.declared.Unit.TheVariants.{Site, Trench, Context, Bag, Sherd, SoilSample, Photo}
@@ -51,7 +51,7 @@ step_back s =
 
 made : (n : ℕ) (r : Result Kind SymbolFault) (s : Step) → with_number n r ≡ Ok s → (r ≡ Ok s.unit) × (n ≡ s.number)
 made n (Ok u) s e = let t : ◌≡◌ {A = Step} (record { unit = u; number = n }) s = cc in (ap (λ y. Ok y.unit) t, ap (λ y. y.number) t)
-made n (Err d) s e = absurd (let z : ◌≡◌ {A = ℕ} 0 1 = cc in omega arith)
+made n (Err d) s e = absurd cc
 
 pub step_own : (bs : List ℕ) (s : Step) → length bs ≡ 3 → Bytes bs → step_of bs ≡ Ok s → step_bytes s ≡ bs
 step_own [] s l k e = absurd (omega arith)
@@ -66,3 +66,14 @@ step_own (a ∷ b ∷ c ∷ []) s l k e =
     let low : s.number % 256 ≡ c = omega arith in
     cc
 step_own (a ∷ b ∷ c ∷ d ∷ bs) s l k e = absurd (omega arith)
+
+-- the law of the bytes of steps
+pub step_laws : WireLaws step_travel
+step_laws = record {
+  one_byte = omega arith;
+  some = omega arith;
+  few = omega arith;
+  long = λ s. refl;
+  back = step_back;
+  own = step_own;
+}

@@ -5,19 +5,18 @@
 // step twice: first to see that the call can succeed, since one that is refused changes nothing.
 #![tactic(auto)]
 
-ghost use Rattle.std.specs.Prelude.{◌≡◌, ◌+◌, ◌*◌, ◌%◌, ◌^◌, refl};
+ghost use Rattle.std.specs.Prelude.{◌≡◌, ◌+◌, ◌*◌, ◌%◌, ◌^◌};
 ghost use Rattle.texts.specs.Texts.{ReadTo};
 ghost use Rattle.steps.specs.Paths.{text_of, Exact};
-ghost use Rattle.steps.specs.Stages.{spelled};
-ghost use Rattle.steps.specs.Units.{unit_byte, unit_of, earlier, step_bytes, step_of, unit_letter, unit_of_letter};
-ghost use Rattle.steps.specs.UnitsLemmas.{step_order, step_back, step_own};
-ghost use Rattle.std.proofs.Common.{arith};
 ghost use Rattle.steps.specs.Spelling.{own_text};
+ghost use Rattle.steps.specs.Stages.{spelled};
+ghost use Rattle.steps.specs.Units.{unit_byte, unit_of, earlier, step_travel, unit_letter, unit_of_letter};
+ghost use Rattle.steps.specs.UnitsLemmas.{step_order, step_laws};
 
 use crate::reading::read_steps;
 use crate::writing::write_steps;
-use symbols::{Symbol, SymbolFault, WireSymbol};
-use texts::{ShortText, TextFault, TextSymbol};
+use symbols::{ShortOutput, Symbol, SymbolFault, WireSymbol};
+use texts::{TextFault, TextSymbol};
 
 mod reading;
 mod writing;
@@ -28,7 +27,7 @@ const KIND: u8 = 2;
 // The bytes that a step takes: one for its unit, and two for its number.
 const WIDTH: usize = 3;
 
-#[derive(Clone, Copy, Debug, PartialEq, Eq)]
+#[derive(Clone, Copy, Debug, PartialEq, Eq, PartialOrd, Ord)]
 pub enum Unit {
     Site = 1,
     Trench = 2,
@@ -39,17 +38,19 @@ pub enum Unit {
     Photo = 7,
 }
 
-#[derive(Clone, Copy, Debug, PartialEq, Eq)]
+#[derive(Clone, Copy, Debug, PartialEq, Eq, PartialOrd, Ord)]
 pub struct Step {
     pub unit: Unit,
     pub number: u16,
 }
 
-impl Unit {
-    // The unit of a byte.
-    pub fn from_byte(b: u8) -> Result<Unit, SymbolFault>
-        ensures { result ≡ unit_of b }
-    {
+// The unit of a byte.
+impl TryFrom<u8> for Unit {
+    type Error = SymbolFault;
+
+    ghost try_from_gives = { λ b r. r ≡ unit_of b };
+
+    fn try_from(b: u8) -> Result<Unit, SymbolFault> {
         let unit = match b {
             1 => Unit::Site,
             2 => Unit::Trench,
@@ -62,14 +63,19 @@ impl Unit {
         };
         Ok(unit)
     }
+}
 
-    // The byte of a unit.
-    pub fn to_byte(self) -> u8
-        ensures { result ≡ unit_byte self }
-    {
-        self as u8
+// The byte of a unit.
+impl From<Unit> for u8 {
+    ghost from_gives = { λ unit r. r ≡ unit_byte unit };
+
+    fn from(unit: Unit) -> u8 {
+        unit as u8
     }
+}
 
+// Its letter, by methods: `u8::from` gives a unit's byte.
+impl Unit {
     // The unit that a letter stands for in a text.
     pub fn from_letter(c: char) -> Option<Unit>
         ensures { result ≡ unit_of_letter c }
@@ -110,33 +116,18 @@ impl Symbol for Step {
     ghost ordered = { step_order };
 
     fn before(self, other: Step) -> bool {
-        let a = self.unit.to_byte();
-        let b = other.unit.to_byte();
-        a < b || a == b && self.number < other.number
+        self < other
     }
 
     fn scatter(self) -> u32 {
-        (self.unit.to_byte() as u32 * 65536 + self.number as u32).wrapping_mul(2654435761)
+        (u32::from(u8::from(self.unit)) * 65536 + u32::from(self.number)).wrapping_mul(2654435761)
     }
 }
 
 impl WireSymbol for Step {
-    ghost kind = { 2 };
+    ghost travel = { step_travel };
 
-    ghost width = { 3 };
-
-    ghost bytes = { step_bytes };
-
-    ghost reads = { step_of };
-
-    ghost wired = { record {
-      one_byte = omega arith;
-      some = omega arith;
-      few = omega arith;
-      long = λ s. refl;
-      back = step_back;
-      own = step_own;
-    } };
+    ghost wired = { step_laws };
 
     fn kind() -> u8 {
         KIND
@@ -148,13 +139,13 @@ impl WireSymbol for Step {
 
     fn write(self, out: &mut [u8]) {
         let [high, low] = self.number.to_be_bytes();
-        out[0] = self.unit.to_byte();
+        out[0] = u8::from(self.unit);
         out[1] = high;
         out[2] = low;
     }
 
     fn read(from: &[u8]) -> Result<Step, SymbolFault> {
-        let unit = Unit::from_byte(from[0])?;
+        let unit = Unit::try_from(from[0])?;
         let number = u16::from_be_bytes([from[1], from[2]]);
         Ok(Step { unit, number })
     }
@@ -176,7 +167,7 @@ impl TextSymbol for Step {
         read_steps(from, out)
     }
 
-    fn write_code(code: &[Step], out: &mut [u8]) -> Result<usize, ShortText> {
+    fn write_code(code: &[Step], out: &mut [u8]) -> Result<usize, ShortOutput> {
         write_steps(code, out)
     }
 }

@@ -4,9 +4,10 @@
 ghost use Rattle.std.specs.Prelude.{◌≡◌, ◌+◌, ◌^◌, ◌<◌};
 ghost use Rattle.texts.specs.Texts.{Begun};
 ghost use Rattle.steps.specs.Paths.{Exact};
-ghost use Rattle.steps.specs.Stages.{digit_of, grown, turned, Kept, spelled};
+ghost use Rattle.steps.specs.Stages.{grown, turned, Kept, spelled};
 
 use crate::{Step, Unit};
+use texts::decimals::{digit_of, push_digit};
 use texts::{TextFault, put};
 
 // What is read of a step: nothing, its letter, or its letter and a digit or more.
@@ -24,24 +25,15 @@ pub struct Turn {
     pub next: Stage,
 }
 
-fn digit_of(b: u8) -> Option<u16>
-    ensures { result ≡ digit_of b }
-{
-    match b {
-        b'0'..=b'9' => Some(u16::from(b - b'0')),
-        _ => None,
-    }
-}
-
-// One digit more: none after a leading zero, and none past 16 bits.
-fn push_digit(number: u16, b: u8) -> Option<u16>
+// One digit more of a step's number: none after a leading zero, and none past 16 bits.
+fn lengthen(number: u16, b: u8) -> Option<u16>
     ensures { result ≡ grown number b }
 {
-    let digit = digit_of(b)?;
     if number == 0 {
         return None;
     }
-    number.checked_mul(10)?.checked_add(digit)
+    let longer = push_digit(u64::from(number), b)?;
+    u16::try_from(longer).ok()
 }
 
 // What a byte does at a stage.
@@ -57,7 +49,7 @@ fn read_byte(stage: Stage, b: u8) -> Option<Turn>
             })
         }
         Stage::Lettered(unit) => {
-            let number = digit_of(b)?;
+            let number = u16::from(digit_of(b)?);
             Some(Turn {
                 done: None,
                 next: Stage::Numbered(Step { unit, number }),
@@ -77,7 +69,7 @@ fn read_in_number(step: Step, b: u8) -> Option<Turn>
             next: Stage::Start,
         });
     }
-    let number = push_digit(step.number, b)?;
+    let number = lengthen(step.number, b)?;
     Some(Turn {
         done: None,
         next: Stage::Numbered(Step {
@@ -106,7 +98,7 @@ pub fn read_steps(from: &[u8], out: &mut [Step]) -> Result<usize, TextFault>
     ensures answer { Begun (spelled from.now) out.old result out.new }
     ensures exact { Exact from.now (spelled from.now) }
 {
-    if from.len() == 0 {
+    if from.is_empty() {
         return Ok(0);
     }
     let mut stage = Stage::Start;

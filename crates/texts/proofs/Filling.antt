@@ -1,5 +1,5 @@
 -- An output filled symbol by symbol, and a code read twice: once to see that it can be read, and once to keep it.
-use Rattle.std.proofs.Common.{◌≡◌, ℕ, zero, suc, ◌≤◌, List, [], ◌∷◌, ◌++◌, length, take, drop, set, Ok, Err, Result, sym, refl, ap, ◌∙◌, arith}
+use Rattle.std.proofs.Common.{◌≡◌, ℕ, zero, suc, ◌≤◌, List, [], ◌∷◌, ◌++◌, length, take, drop, set, Ok, Err, Result, sym, refl, ap, ◌∙◌}
 use Rattle.std.proofs.lemmas.List.{take_all, take_at}
 use Rattle.texts.specs.Texts.{filled, ReadTo, Begun}
 use Rattle.texts.specs.declared.TextFault.{TextFault}
@@ -21,29 +21,27 @@ module _ {S : Type 0} where
 
   -- what is known of the spelling once a reading has ended
   pub begun_ok : (s : Result (List S) TextFault) (code old new : List S) (r : Result ℕ TextFault) → s ≡ Ok code → r ≡ Ok (length code) → new ≡ filled code old → Begun s old r new
-  begun_ok (Ok code₁) code old new r e p q = let same : code ≡ code₁ = cc in (p ∙ ap (λ c. Ok (length c)) same, q ∙ ap (λ c. filled c old) same)
-  begun_ok (Err fault) code old new r e p q = absurd (let z : ◌≡◌ {A = ℕ} 0 1 = cc in omega arith)
+  begun_ok s code old new r e p q = rw e (p, q)
 
   pub begun_err : (s : Result (List S) TextFault) (fault : TextFault) (old new : List S) (r : Result ℕ TextFault) → s ≡ Err fault → r ≡ Err fault → Begun s old r new
-  begun_err (Ok code) fault old new r e p = absurd (let z : ◌≡◌ {A = ℕ} 0 1 = cc in omega arith)
-  begun_err (Err fault₁) fault old new r e p = cc
+  begun_err s fault old new r e p = rw e p
 
   -- a reading that refuses, and one after a reading that did not
   pub read_none : (s : Result (List S) TextFault) (fault : TextFault) (a b old : List S) → Begun s a (Err fault) b → ReadTo s old (Err fault) old
-  read_none (Ok code) fault a b old h = absurd (let e = h.0 in let z : ◌≡◌ {A = ℕ} 0 1 = cc in omega arith)
+  read_none (Ok code) fault a b old h = absurd cc
   read_none (Err fault₁) fault a b old h = (h, refl)
 
   pub read_again : (s : Result (List S) TextFault) (n : ℕ) (a b old new : List S) (r : Result ℕ TextFault) → Begun s a (Ok n) b → Begun s old r new → ReadTo s old r new
   read_again (Ok code) n a b old new r h k = k
-  read_again (Err fault) n a b old new r h k = absurd (let z : ◌≡◌ {A = ℕ} 0 1 = cc in omega arith)
+  read_again (Err fault) n a b old new r h k = absurd cc
 
   -- what a caller learns of a reading
   pub read_ok : (s : Result (List S) TextFault) (old new : List S) (n : ℕ) → ReadTo s old (Ok n) new → (code : List S) × (s ≡ Ok code) × (n ≡ length code) × (new ≡ filled code old)
   read_ok (Ok code) old new n h = let e = h.0 in (code, refl, cc, h.1)
-  read_ok (Err fault) old new n h = absurd (let e = h.0 in let z : ◌≡◌ {A = ℕ} 0 1 = cc in omega arith)
+  read_ok (Err fault) old new n h = absurd cc
 
   pub read_err : (s : Result (List S) TextFault) (fault : TextFault) (old new : List S) → ReadTo s old (Err fault) new → (s ≡ Err fault) × (new ≡ old)
-  read_err (Ok code) fault old new h = absurd (let e = h.0 in let z : ◌≡◌ {A = ℕ} 0 1 = cc in omega arith)
+  read_err (Ok code) fault old new h = absurd cc
   read_err (Err fault₁) fault old new h = let e = h.0 in (cc, h.1)
 
   -- a code that fits stands whole at the start

@@ -1,6 +1,6 @@
 -- A code read from its text and written as its text, over any kind of symbol.
 use Rattle.std.specs.Prelude.{◌≡◌, ℕ, ◌<◌, ◌≤◌, List, ◌++◌, length, take, drop, Ok, Err, Result}
-use Rattle.texts.specs.declared.ShortText.{ShortText}
+use Rattle.symbols.specs.declared.ShortOutput.{ShortOutput}
 use Rattle.texts.specs.declared.TextFault.{TextFault}
 
 -- a text that spells a code is that code's own text
@@ -22,8 +22,16 @@ abbrev pub Begun : {S : Type 0} → Result (List S) TextFault → List S → Res
 Begun (Ok code) old r new = (r ≡ Ok (length code)) × (new ≡ filled code old)
 Begun (Err fault) old r new = r ≡ Err fault
 
+-- a text stands at the start of an output, whose rest is as it was
+abbrev pub Starts : List ℕ → List ℕ → List ℕ → ℕ → Type 0
+Starts text old new n = (length text ≤ length old) × (n ≡ length text) × (new ≡ text ++ drop (length text) old)
+
+-- an output has no room for a text, and is as it was
+abbrev pub NoRoom : List ℕ → List ℕ → List ℕ → Type 0
+NoRoom text old new = (length old < length text) × (new ≡ old)
+
 -- a text is written to the start of an output, and the answer is its length; refused, with the output as it was, exactly
 -- if it does not fit
-abbrev pub WrittenTo : List ℕ → List ℕ → Result ℕ ShortText → List ℕ → Type 0
-WrittenTo text old (Ok n) new = (length text ≤ length old) × (n ≡ length text) × (new ≡ text ++ drop (length text) old)
-WrittenTo text old (Err short) new = (length old < length text) × (new ≡ old)
+abbrev pub WrittenTo : List ℕ → List ℕ → Result ℕ ShortOutput → List ℕ → Type 0
+WrittenTo text old (Ok n) new = Starts text old new n
+WrittenTo text old (Err short) new = NoRoom text old new

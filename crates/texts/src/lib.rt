@@ -10,7 +10,9 @@ ghost use Rattle.texts.specs.Texts.{OwnText, ReadTo, WrittenTo};
 ghost use Rattle.texts.specs.declared.TextFault.{TextFault};
 ghost use Rattle.texts.specs.declared.TextFault.TheVariants.{Symbol as symbol_fault};
 
-use symbols::{Symbol, SymbolFault};
+use symbols::{Refusal, ShortOutput, Symbol, SymbolFault};
+
+pub mod decimals;
 
 // Why a text spells no code: it has another form, or a part of it makes no symbol.
 #[derive(Clone, Copy, Debug, PartialEq, Eq)]
@@ -27,31 +29,21 @@ impl From<SymbolFault> for TextFault {
     }
 }
 
-impl TextFault {
-    // The number of the refusal.
-    pub fn number(self) -> u8
-        ensures { result ≡ (refusal self).number }
-    {
-        match self {
-            TextFault::Unreadable => 18,
-            TextFault::Symbol(_) => 1,
-        }
-    }
+// Refusal 18, or the symbol's own.
+impl From<TextFault> for Refusal {
+    ghost from_gives = { λ fault r. r ≡ refusal fault };
 
-    // What the refusal carries.
-    pub fn detail(self) -> u8
-        ensures { result ≡ (refusal self).detail }
-    {
-        match self {
-            TextFault::Unreadable => 0,
-            TextFault::Symbol(fault) => fault.byte,
+    fn from(fault: TextFault) -> Refusal {
+        match fault {
+            TextFault::Unreadable => Refusal {
+                number: 18,
+                detail: 0,
+                symbol: None,
+            },
+            TextFault::Symbol(fault) => Refusal::from(fault),
         }
     }
 }
-
-// The output is too short for the text.
-#[derive(Clone, Copy, Debug, PartialEq, Eq)]
-pub struct ShortText;
 
 pub trait TextSymbol: Symbol {
     // what a text spells
@@ -66,7 +58,7 @@ pub trait TextSymbol: Symbol {
         ensures { ReadTo (spells from.now) out.old result out.new };
 
     // Writes the text of `code` to the start of `out`, and answers its length. What is written spells the code again.
-    fn write_code(code: &[Self], out: &mut [u8]) -> Result<usize, ShortText>
+    fn write_code(code: &[Self], out: &mut [u8]) -> Result<usize, ShortOutput>
         ensures answer { WrittenTo (text code.now) out.old result out.new }
         ensures back { OnOk result (spells (text code.now) ≡ Ok code.now) };
 
@@ -77,6 +69,7 @@ pub trait TextSymbol: Symbol {
 pub fn put<S: Copy>(out: &mut [S], place: usize, symbol: S)
     ensures { out.new ≡ slice_set out.old place symbol }
 {
+    // By index: what `get_mut` lends leaves the rest of the slice untold.
     if place < out.len() {
         out[place] = symbol;
     }

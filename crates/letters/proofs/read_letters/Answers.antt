@@ -3,7 +3,7 @@ use Rattle.std.proofs.lemmas.List.{length_push}
 use Rattle.std.proofs.lemmas.Result.{err_from_is_err_and}
 use Rattle.texts.proofs.Filling.{filled_none, filled_more, begun_ok, begun_err}
 use Rattle.letters.specs.Codes.{spelled}
-use Rattle.letters.specs.Spelling.{spelled_more, spelled_stops, spelled_all}
+use Rattle.letters.proofs.Spelling.{spelled_more, spelled_stops, spelled_all}
 use Rattle.letters.proofs.read_letters.Goals as goal
 
 pub returns-in_err-letter : goal.returns-in_err-letter

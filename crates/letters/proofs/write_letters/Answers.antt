@@ -3,7 +3,7 @@ use lib.ListN.{length-map}
 use Rattle.std.proofs.lemmas.List.{take_all}
 use Rattle.letters.specs.Codes.{text_of}
 use Rattle.letters.specs.Letters.{byte_of}
-use Rattle.letters.specs.Spelling.{text_back, written_more}
+use Rattle.letters.proofs.Spelling.{text_back, written_more}
 use Rattle.letters.proofs.write_letters.Goals as goal
 
 pub returns-then-code-out : goal.returns-then-code-out
@@ -13,7 +13,7 @@ pub loop-i-preserved : goal.loop-i-preserved
 loop-i-preserved c =
     let i = c.loop-i.i in
     let more = written_more c.args.code.now c.args.out.now i _ c.loop-i-test.true (omega arith) in
-    (λ j. set (c.loop-i.invariant j) i (c.to_byte.ensures j)) ∙ more
+    (λ j. set (c.loop-i.invariant j) i (c.from.ensures j)) ∙ more
 
 pub returns : goal.returns
 returns c =

@@ -3,6 +3,7 @@ use Rattle.std.proofs.lemmas.List.{take_all, length-take-le}
 use Rattle.std.proofs.lemmas.Bool.{both_ways, and_parts, eqb-true}
 use Rattle.commands.specs.Reading.{all_digits}
 use Rattle.commands.proofs.Hexes.{text_sound, text_complete, hex_once, length_hex, read_more, bytes_more, kept_more, read_all, digit_at}
+use Rattle.commands.proofs.Spelling.{starts}
 use Rattle.commands.proofs.hex.decode_hex.Goals as goal
 
 pub returns-then-not-is_hex : goal.returns-then-not-is_hex
@@ -42,7 +43,7 @@ returns c =
       answer = (
         take c.loop-i.i c.loop-i.out,
         (c.loop-i.invariant.1, c.loop-i.invariant.0 ∙ whole),
-        (omega arith, omega arith, read_all c.loop-i.out c.args.out.now c.loop-i.i _ end c.loop-i.invariant.2),
+        starts (take c.loop-i.i c.loop-i.out) c.args.out.now c.loop-i.out _ (omega arith) (omega arith) (read_all c.loop-i.out c.args.out.now c.loop-i.i _ end c.loop-i.invariant.2),
       );
       once = hex_once c.args.hex.now;
     }

@@ -2,6 +2,7 @@ use Rattle.std.proofs.Common.{◌≡◌, ◌+◌, ◌*◌, ◌++◌, length, tak
 use Rattle.std.proofs.lemmas.List.{take_all}
 use Rattle.commands.specs.Hexadecimals.{hexadecimal}
 use Rattle.commands.proofs.Hexes.{length_hex, write_more}
+use Rattle.commands.proofs.Spelling.{starts}
 use Rattle.commands.proofs.hex.encode_hex.Goals as goal
 
 pub returns-then-out-bytes : goal.returns-then-out-bytes
@@ -17,6 +18,4 @@ returns c =
     let long = length_hex c.args.bytes.now in
     let end : c.loop-i.i ≡ length c.args.bytes.now = omega arith in
     let all : take c.loop-i.i c.args.bytes.now ≡ c.args.bytes.now = take_all c.loop-i.i c.args.bytes.now (omega arith) in
-    record {
-      answer = (omega arith, sym long, c.loop-i.invariant ∙ (λ j. hexadecimal (all j) ++ drop (2 * end j) c.args.out.now));
-    }
+    record { answer = starts (hexadecimal c.args.bytes.now) c.args.out.now _ _ (omega arith) (sym long) (c.loop-i.invariant ∙ (λ j. hexadecimal (all j) ++ drop (2 * end j) c.args.out.now)) }

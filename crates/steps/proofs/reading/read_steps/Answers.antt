@@ -1,4 +1,4 @@
-use Rattle.std.proofs.Common.{◌+◌, [], ◌∷◌, ◌++◌, set, Some, None, Ok, Err, sym, refl, ap, ◌∙◌, arith}
+use Rattle.std.proofs.Common.{◌+◌, [], ◌∷◌, ◌++◌, set, Some, None, Ok, Err, sym, refl, ap, ◌∙◌, arith, eqb-true}
 use Rattle.std.proofs.lemmas.List.{nil_from_length, length_push}
 use Rattle.texts.proofs.Filling.{filled_none, filled_more, begun_ok, begun_err}
 use Rattle.texts.specs.declared.TextFault.TheVariants.{Unreadable}
@@ -8,10 +8,10 @@ use Rattle.steps.specs.Spelling.{exact}
 use Rattle.steps.proofs.Turns.{onto, onto_none, turn_more, turn_stops, turn_ends, ended_none, spelled_some, kept_long, kept_filled, kept_few}
 use Rattle.steps.proofs.reading.read_steps.Goals as goal
 
-pub returns-then-from-eq0 : goal.returns-then-from-eq0
-returns-then-from-eq0 c = record {
+pub returns-then-is_empty : goal.returns-then-is_empty
+returns-then-is_empty c = record {
   exact = exact c.args.from.now;
-  answer = begun_ok (spelled c.args.from.now) [] c.args.out.now c.args.out.now (Ok 0) (ap spelled (nil_from_length c.args.from.now c.if-from-eq0.true)) refl (sym (filled_none c.args.out.now));
+  answer = begun_ok (spelled c.args.from.now) [] c.args.out.now c.args.out.now (Ok 0) (ap spelled (nil_from_length c.args.from.now (eqb-true _ _ (sym c.is_empty.ensures ∙ c.if-is_empty.true)))) refl (sym (filled_none c.args.out.now));
 }
 
 pub loop-b-init : goal.loop-b-init
@@ -21,7 +21,7 @@ pub returns-in_default : goal.returns-in_default
 returns-in_default c =
     let from = c.args.from.now in
     let none = turn_stops (steps_from Start from) from c.loop-b.stage c.loop-b.b-index c.loop-b.invariant.0 c.loop-b-test.true c.loop-b.invariant.3 c.in_default.ensures in
-    record { answer = begun_err (spelled from) Unreadable c.args.out.now c.loop-b.out (Err Unreadable) (spelled_some from None c.if-from-eq0.false none) refl; exact = exact from }
+    record { answer = begun_err (spelled from) Unreadable c.args.out.now c.loop-b.out (Err Unreadable) (spelled_some from None (sym c.is_empty.ensures ∙ c.if-is_empty.false) none) refl; exact = exact from }
 
 pub loop-b-preserved : goal.loop-b-preserved
 loop-b-preserved c =
@@ -42,7 +42,7 @@ returns-in_default-stage c =
     let from = c.args.from.now in
     let ends = turn_ends (steps_from Start from) from c.loop-b.stage c.loop-b.b-index c.loop-b.invariant.0 c.loop-b-test.false c.loop-b.invariant.3 in
     let none = ends ∙ ap (onto c.loop-b.invariant.0) (ended_none c.loop-b.stage c.in_default-stage.not-Numbered) in
-    record { answer = begun_err (spelled from) Unreadable c.args.out.now c.loop-b.out (Err Unreadable) (spelled_some from None c.if-from-eq0.false none) refl; exact = exact from }
+    record { answer = begun_err (spelled from) Unreadable c.args.out.now c.loop-b.out (Err Unreadable) (spelled_some from None (sym c.is_empty.ensures ∙ c.if-is_empty.false) none) refl; exact = exact from }
 
 pub returns : goal.returns
 returns c =
@@ -54,6 +54,6 @@ returns c =
     let long = c.loop-b.invariant.1 in
     record {
       exact = exact from;
-      answer = begun_ok (spelled from) (code ++ last ∷ []) c.args.out.now c.put.new.out (Ok (c.loop-b.count + 1)) (spelled_some from (Some (code ++ last ∷ [])) c.if-from-eq0.false all) (ap (λ n. Ok n) (sym (length_push code last ∙ ap (λ n. n + 1) long)))
+      answer = begun_ok (spelled from) (code ++ last ∷ []) c.args.out.now c.put.new.out (Ok (c.loop-b.count + 1)) (spelled_some from (Some (code ++ last ∷ [])) (sym c.is_empty.ensures ∙ c.if-is_empty.false) all) (ap (λ n. Ok n) (sym (length_push code last ∙ ap (λ n. n + 1) long)))
           (c.put.ensures ∙ (λ j. set (c.loop-b.invariant.4 j) (sym long j) last) ∙ filled_more code last c.args.out.now);
     }

@@ -1,4 +1,4 @@
-use Rattle.std.proofs.Common.{◌≡◌, ℕ, ◌≤◌, List, ◌∷◌, ◌++◌, length, drop, set, Ok, sym, refl, subst, arith, length-set}
+use Rattle.std.proofs.Common.{◌≡◌, ℕ, ◌≤◌, List, ◌∷◌, ◌++◌, length, drop, Ok, sym, refl, subst, arith}
 use Rattle.std.proofs.ByRecursion.{All-more}
 use Rattle.std.proofs.lemmas.List.{nil_from_length, take_all}
 use Rattle.std.specs.List.{AllByRecursion}
@@ -20,32 +20,15 @@ returns-in_default c =
 pub write_step-at-requires : goal.write_step-at-requires
 write_step-at-requires c =
     let whole = length_text c.in-Some.first.now c.in-Some.rest.now in
-    let room = c.fits.ensures.0 c.if-not-fits.false in
+    let room = c.room_after.ensures.0 c.if-is_none.ensures in
     omega arith
 
 pub loop-step-init : goal.loop-step-init
 loop-step-init c = (omega arith, laid_none c.write_step-at.result c.write_step-at.new.out, tt)
 
-pub bounds-out-at : goal.bounds-out-at
-bounds-out-at c =
-    let first = c.in-Some.first.now in
-    let room = room_next first c.in-Some.rest.now c.loop-step.step-index c.write_step-at.result c.loop-step.at (length c.args.out.now) first c.loop-step-test.true c.write_step-at.ensures.value c.loop-step.invariant.0 (c.fits.ensures.0 c.if-not-fits.false) in
-    omega arith
-
-pub overflow_add-at : goal.overflow_add-at
-overflow_add-at c =
-    let first = c.in-Some.first.now in
-    let room = room_next first c.in-Some.rest.now c.loop-step.step-index c.write_step-at.result c.loop-step.at (length c.args.out.now) first c.loop-step-test.true c.write_step-at.ensures.value c.loop-step.invariant.0 (c.fits.ensures.0 c.if-not-fits.false) in
-    omega arith
-
-pub write_step-at-requires-in-loop-step : goal.write_step-at-requires-in-loop-step
-write_step-at-requires-in-loop-step c =
-    let first = c.in-Some.first.now in
-    let rest = c.in-Some.rest.now in
-    let room = c.fits.ensures.0 c.if-not-fits.false in
-    let same = length-set c.loop-step.out c.loop-step.at 47 in
-    let fits : length (text_of (first ∷ rest)) ≤ length (set c.loop-step.out c.loop-step.at 47) = omega arith in
-    room_next first rest c.loop-step.step-index c.write_step-at.result c.loop-step.at (length (set c.loop-step.out c.loop-step.at 47)) _ c.loop-step-test.true c.write_step-at.ensures.value c.loop-step.invariant.0 fits
+pub write_slashed-at-requires : goal.write_slashed-at-requires
+write_slashed-at-requires c =
+    room_next c.in-Some.first.now c.in-Some.rest.now c.loop-step.step-index c.write_step-at.result c.loop-step.at (length c.loop-step.out) _ c.loop-step-test.true c.write_step-at.ensures.value c.loop-step.invariant.0 (let fits = c.room_after.ensures.0 c.if-is_none.ensures in omega arith)
 
 pub loop-step-preserved : goal.loop-step-preserved
 loop-step-preserved c =
@@ -54,13 +37,11 @@ loop-step-preserved c =
     let i = c.loop-step.step-index in
     let a = c.write_step-at.result in
     let start = c.write_step-at.new.out in
-    let first = c.in-Some.first.now in
-    let fits = c.fits.ensures.0 c.if-not-fits.false in
-    let whole = length_text first rest in
-    let room = room_next first rest i a c.loop-step.at (length c.args.out.now) first h c.write_step-at.ensures.value c.loop-step.invariant.0 fits in (
-      end_next rest i a c.loop-step.at c.write_step-at-in-loop-step.result _ h c.loop-step.invariant.0 c.write_step-at-in-loop-step.ensures.value,
-      written_next rest i a c.loop-step.at c.loop-step.out c.write_step-at-in-loop-step.new.out start _ h (omega arith) (omega arith) c.loop-step.invariant.0 c.loop-step.invariant.1 c.write_step-at-in-loop-step.ensures.after,
-      All-more Short rest i _ h c.loop-step.invariant.2 c.write_step-at-in-loop-step.ensures.short,
+    let whole = length_text c.in-Some.first.now rest in
+    let fits = c.room_after.ensures.0 c.if-is_none.ensures in (
+      end_next rest i a c.loop-step.at c.write_slashed-at.result _ h c.loop-step.invariant.0 c.write_slashed-at.ensures.value,
+      written_next rest i a c.loop-step.at c.loop-step.out c.write_slashed-at.new.out start _ h (omega arith) c.loop-step.invariant.0 c.loop-step.invariant.1 c.write_slashed-at.ensures.after,
+      All-more Short rest i _ h c.loop-step.invariant.2 c.write_slashed-at.ensures.short,
     )
 
 pub returns : goal.returns
@@ -74,7 +55,7 @@ returns c =
     let a = c.write_step-at.result in
     let P : List Step → Type 0 = λ code. (length (text_of code) ≤ length old) × (c.loop-step.at ≡ length (text_of code)) × (c.loop-step.out ≡ text_of code ++ drop (length (text_of code)) old) in
     let at_end : P (first ∷ rest) = (
-      c.fits.ensures.0 c.if-not-fits.false,
+      c.room_after.ensures.0 c.if-is_none.ensures,
       end_all first rest i a c.loop-step.at h c.write_step-at.ensures.value c.loop-step.invariant.0,
       written_all first rest i a c.loop-step.out c.write_step-at.new.out old h c.write_step-at.ensures.value c.loop-step.invariant.1 c.write_step-at.ensures.after,
     ) in

@@ -1,7 +1,7 @@
 use Rattle.std.proofs.Common.{◌≡◌, ◌+◌, length, take}
 use Rattle.std.specs.List.{flat_map}
 use Rattle.steps.specs.Paths.{slashed}
-use Rattle.steps.proofs.writing.fits.Given as goal
+use Rattle.steps.proofs.writing.room_after.Given as goal
 
 -- what the first step leaves is what the steps after it take so far, and what is left
 abbrev pub invariant-loop-step : goal.invariant-loop-step
