@@ -1,13 +1,14 @@
 // Why a dispatch is refused: a symbol's fault inside a record's fault inside the dispatch's.
 ghost use Rattle.std.specs.Prelude.{◌≡◌};
 ghost use Rattle.wire.specs.declared.faults.RecordFault.TheVariants.{Label};
-ghost use Rattle.wire.specs.declared.faults.ReceiveFault.TheVariants.{Record};
+ghost use Rattle.wire.specs.declared.faults.ReceiveFault.TheVariants.{Record, ShelfFull};
 ghost use Rattle.wire.specs.Refusals.{record_refusal, receive_refusal};
 
+use memory::shelf::Full;
 use symbols::{Refusal, SymbolFault};
 
 // What is wrong with one record.
-#[derive(Clone, Copy)]
+#[derive(Clone, Copy, Debug, PartialEq, Eq)]
 pub enum RecordFault {
     // The label is no symbol.
     Label(SymbolFault),
@@ -20,14 +21,14 @@ pub enum RecordFault {
 }
 
 // A faulty record, by its place counted from 0.
-#[derive(Clone, Copy)]
+#[derive(Clone, Copy, Debug, PartialEq, Eq)]
 pub struct FaultyRecord {
     pub place: u32,
     pub fault: RecordFault,
 }
 
 // Why a dispatch is refused.
-#[derive(Clone, Copy)]
+#[derive(Clone, Copy, Debug, PartialEq, Eq)]
 pub enum ReceiveFault {
     // There is too little work space.
     LittleWork,
@@ -49,24 +50,32 @@ pub enum ReceiveFault {
 impl From<SymbolFault> for RecordFault {
     ghost from_gives = { λ e r. r ≡ Label e };
 
-    fn from(e: SymbolFault) -> RecordFault {
-        RecordFault::Label(e)
+    fn from(e: SymbolFault) -> Self {
+        Self::Label(e)
     }
 }
 
 impl From<FaultyRecord> for ReceiveFault {
     ghost from_gives = { λ e r. r ≡ Record e };
 
-    fn from(e: FaultyRecord) -> ReceiveFault {
-        ReceiveFault::Record(e)
+    fn from(e: FaultyRecord) -> Self {
+        Self::Record(e)
     }
 }
 
-impl FaultyRecord {
-    pub fn refusal(self) -> Refusal
-        ensures { result ≡ record_refusal self }
-    {
-        let (number, symbol) = match self.fault {
+impl From<Full> for ReceiveFault {
+    ghost from_gives = { λ e r. r ≡ ShelfFull };
+
+    fn from(_: Full) -> Self {
+        Self::ShelfFull
+    }
+}
+
+impl From<FaultyRecord> for Refusal {
+    ghost from_gives = { λ faulty r. r ≡ record_refusal faulty };
+
+    fn from(faulty: FaultyRecord) -> Self {
+        let (number, symbol) = match faulty.fault {
             RecordFault::Label(fault) => (13, Some(fault)),
             RecordFault::LinkNotBelow => (14, None),
             RecordFault::OneLinkZero => (15, None),
@@ -74,22 +83,22 @@ impl FaultyRecord {
         };
         Refusal {
             number,
-            detail: self.place as usize,
+            detail: faulty.place as usize,
             symbol,
         }
     }
 }
 
-impl ReceiveFault {
-    pub fn refusal(self) -> Refusal
-        ensures { result ≡ receive_refusal self }
-    {
-        let number = match self {
+impl From<ReceiveFault> for Refusal {
+    ghost from_gives = { λ fault r. r ≡ receive_refusal fault };
+
+    fn from(fault: ReceiveFault) -> Self {
+        let number = match fault {
             ReceiveFault::LittleWork => 3,
             ReceiveFault::BadLength => 10,
             ReceiveFault::OtherVersion => 11,
             ReceiveFault::OtherKind => 12,
-            ReceiveFault::Record(record) => return record.refusal(),
+            ReceiveFault::Record(faulty) => return Refusal::from(faulty),
             ReceiveFault::NotAsWritten => 17,
             ReceiveFault::CodeTooLong => 4,
             ReceiveFault::ShelfFull => 9,

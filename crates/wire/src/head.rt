@@ -2,8 +2,14 @@
 ghost use Rattle.std.specs.Prelude.{◌≡◌, ◌≤◌, ◌++◌, length, drop, if◌then◌else◌, Some, None, nat_le};
 ghost use Rattle.wire.specs.Heads.{word_of, head_of, head_part, rest_part, head_bytes};
 
+// How many bytes a head has.
+pub const HEAD_LENGTH: usize = 14;
+
+// The version of the bytes that are written and read here.
+pub const VERSION: u8 = 1;
+
 // The length of the whole, the version, the kind's number, how many vertices, and the root.
-#[derive(Clone, Copy)]
+#[derive(Clone, Copy, Debug, PartialEq, Eq)]
 pub struct Head {
     pub whole: u32,
     pub version: u8,
@@ -13,16 +19,16 @@ pub struct Head {
 }
 
 // The number in four bytes, the highest first.
-fn be_word(a: u8, b: u8, c: u8, d: u8) -> u32
+pub(crate) fn be_word(a: u8, b: u8, c: u8, d: u8) -> u32
     ensures { result ≡ word_of a b c d }
 {
     u32::from_be_bytes([a, b, c, d])
 }
 
-// The first fourteen bytes taken apart, and the rest; nothing, where there are fewer.
+// The first fourteen bytes taken apart by one pattern, as the rules have it, and the rest; nothing, where there are fewer.
 pub fn split_head(bytes: &[u8]) -> Option<(Head, &[u8])>
-    ensures head { head_part result ≡ (if nat_le 14 (length bytes.now) then Some (head_of bytes.now) else None) }
-    ensures rest { rest_part result ≡ (if nat_le 14 (length bytes.now) then Some (drop 14 bytes.now) else None) }
+    ensures head { head_part result ≡ (if nat_le HEAD_LENGTH (length bytes.now) then Some (head_of bytes.now) else None) }
+    ensures rest { rest_part result ≡ (if nat_le HEAD_LENGTH (length bytes.now) then Some (drop HEAD_LENGTH bytes.now) else None) }
 {
     let [
         l0,
@@ -54,15 +60,15 @@ pub fn split_head(bytes: &[u8]) -> Option<(Head, &[u8])>
     Some((head, rest))
 }
 
-// Writes the head to the start of `out`.
+// Writes the head to the start of `out`, by one copy: of five copies nothing is proved as yet.
 pub fn write_head(head: Head, out: &mut [u8])
-    requires { 14 ≤ length out.old }
-    ensures { out.new ≡ head_bytes head ++ drop 14 out.old }
+    requires { HEAD_LENGTH ≤ length out.old }
+    ensures { out.new ≡ head_bytes head ++ drop HEAD_LENGTH out.old }
 {
     let [l0, l1, l2, l3] = head.whole.to_be_bytes();
     let [c0, c1, c2, c3] = head.count.to_be_bytes();
     let [r0, r1, r2, r3] = head.root.to_be_bytes();
-    out[..14].copy_from_slice(&[
+    out[..HEAD_LENGTH].copy_from_slice(&[
         l0,
         l1,
         l2,

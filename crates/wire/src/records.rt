@@ -1,25 +1,32 @@
 // The record of a vertex: its label, its zero link and its one link.
 ghost use Rattle.std.specs.Prelude.{◌≡◌, ◌+◌, ◌-◌, ◌*◌, ◌≤◌, ◌++◌, length, drop};
 ghost use Rattle.ledger.specs.Dispatch.{be4};
+ghost use Rattle.wire.specs.Heads.{word};
 ghost use Rattle.wire.specs.Back.{RecordsBack};
-ghost use Rattle.wire.specs.Records.{travel, record_of, record_bytes, zero_after};
+ghost use Rattle.wire.specs.Records.{record_of, record_bytes, zero_after};
 
 use crate::faults::RecordFault;
+use crate::head::be_word;
 use ledger::Vertex;
 use symbols::{Symbol, WireSymbol};
+
+// The number in the four bytes from `at` on.
+fn word_at(bytes: &[u8], at: usize) -> u32
+    requires { at + 4 ≤ length bytes.now }
+    ensures { result ≡ word bytes.now at }
+{
+    be_word(bytes[at], bytes[at + 1], bytes[at + 2], bytes[at + 3])
+}
 
 // The vertex `own`, from the bytes of its record.
 pub fn read_record<S: WireSymbol>(own: u32, bytes: &[u8]) -> Result<Vertex<S>, RecordFault>
     requires { length bytes.now ≡ S.WireSymbol.travel.width + 8 }
     ensures { result ≡ record_of S.WireSymbol.travel own bytes.now }
 {
-    let (label, links) = bytes.split_at(S::width());
-    let label = S::read(label)?;
-    let [z0, z1, z2, z3, o0, o1, o2, o3] = links else {
-        unreachable()
-    };
-    let zero = u32::from_be_bytes([*z0, *z1, *z2, *z3]);
-    let one = u32::from_be_bytes([*o0, *o1, *o2, *o3]);
+    let width = S::width();
+    let label = S::read(&bytes[..width])?;
+    let zero = word_at(bytes, width);
+    let one = word_at(bytes, width + 4);
     if zero >= own || one >= own {
         return Err(RecordFault::LinkNotBelow);
     }
@@ -39,10 +46,7 @@ pub fn zero_label_after<S: WireSymbol>(label: S, zero: u32, records: &[u8]) -> b
     }
     let width = S::width();
     let start = (zero - 2) as usize * (width + 8);
-    match S::read(&records[start..start + width]) {
-        Ok(later) => label.before(later),
-        Err(_) => false,
-    }
+    S::read(&records[start..start + width]).is_ok_and(|later| label.before(later))
 }
 
 // Writes two links to the start of `out`.
@@ -50,9 +54,8 @@ fn write_links(zero: u32, one: u32, out: &mut [u8])
     requires { 8 ≤ length out.old }
     ensures { out.new ≡ be4 zero ++ (be4 one ++ drop 8 out.old) }
 {
-    let [z0, z1, z2, z3] = zero.to_be_bytes();
-    let [o0, o1, o2, o3] = one.to_be_bytes();
-    out[..8].copy_from_slice(&[z0, z1, z2, z3, o0, o1, o2, o3]);
+    out[..4].copy_from_slice(&zero.to_be_bytes());
+    out[4..8].copy_from_slice(&one.to_be_bytes());
 }
 
 // Writes the record of a vertex to the start of `out`.

@@ -1,4 +1,3 @@
-use Rattle.wire.specs.Records.{travel}
 use Rattle.wire.proofs.Reading.{records_back}
 use Rattle.wire.proofs.records.records_read_back.Goals as goal
 
