@@ -15,7 +15,7 @@ use Rattle.store.specs.State.{State, Checked, check}
 use Rattle.store.specs.Calls.{Writes, Written, count_checks}
 use Rattle.store.specs.Run.{WrittenAlike}
 use Rattle.writing.specs.Writes as writing
-use Rattle.writing.specs.declared.ShortOutput.{ShortOutput as ShortOut}
+use Rattle.symbols.specs.declared.ShortOutput.{ShortOutput as ShortOut}
 use Rattle.store.proofs.Checks.{good_list, then_comes, refuses}
 use Rattle.store.proofs.Standing.{passes}
 use Rattle.store.proofs.Runs.{run_stands}

@@ -6,8 +6,7 @@ ghost use Rattle.store.specs.declared.fault.Fault.TheVariants.{NoSuchRule as no_
 use counting::picking::PickFault;
 use joining::rule::NoSuchRule;
 use memory::shelf::Full;
-use symbols::Refusal;
-use writing::ShortOutput;
+use symbols::{Refusal, ShortOutput};
 
 #[derive(Clone, Copy, Debug, PartialEq, Eq)]
 pub enum Fault {
