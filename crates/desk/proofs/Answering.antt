@@ -6,7 +6,8 @@ use Rattle.std.proofs.lemmas.Bool.{cases_lt}
 use Rattle.commands.specs.declared.output.TooShort.{TooShort}
 use Rattle.commands.specs.Outputs.{Puts}
 use Rattle.desk.specs.declared.reply.Reply.{Reply}
-use Rattle.desk.specs.declared.reply.Reply.TheVariants.{List as a_list, Count, Truth, Picked, Refused}
+use Rattle.desk.specs.declared.reply.Reply.TheVariants.{List as a_list, Count, Truth, Picked}
+use Rattle.desk.specs.declared.reply.LineFault.{LineFault}
 use Rattle.desk.specs.Replies.{reply_text, Put}
 
 -- what is put at the start of the output alone
@@ -15,13 +16,13 @@ put_alone line room old new (Ok n) h = h
 put_alone line room old new (Err e) h = (inl h.0, h.1)
 
 -- a reply that is no code has the same line whatever the text of a code is
-pub plain_text : (reply : Reply) (t u : List ℕ) → ((n : ℕ) → reply ≡ Picked n → ⊥) → reply_text t reply ≡ reply_text u reply
-plain_text (a_list n) t u h = refl
-plain_text (Count n) t u h = refl
-plain_text (Truth true) t u h = refl
-plain_text (Truth false) t u h = refl
-plain_text (Picked n) t u h = absurd (h n refl)
-plain_text (Refused n) t u h = refl
+pub plain_text : (reply : Result Reply LineFault) (t u : List ℕ) → ((n : ℕ) → reply ≡ Ok (Picked n) → ⊥) → reply_text t reply ≡ reply_text u reply
+plain_text (Ok (a_list n)) t u h = refl
+plain_text (Ok (Count n)) t u h = refl
+plain_text (Ok (Truth true)) t u h = refl
+plain_text (Ok (Truth false)) t u h = refl
+plain_text (Ok (Picked n)) t u h = absurd (h n refl)
+plain_text (Err fault) t u h = refl
 
 -- a part from the start, no longer than the whole
 pub first_part : {S : Type 0} (n m : ℕ) (xs : List S) → m ≡ min n (length xs) → take (m - 0) xs ≡ take n xs

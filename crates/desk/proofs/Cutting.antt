@@ -13,7 +13,8 @@ use Rattle.ledger.specs.Operations.{has, added, removed, under}
 use Rattle.texts.specs.declared.TextFault.{TextFault}
 use Rattle.texts.specs.Texts.{filled}
 use Rattle.desk.specs.declared.reply.Reply.{Reply}
-use Rattle.desk.specs.Replies.{text_reply}
+use Rattle.desk.specs.declared.reply.LineFault.{LineFault}
+use Rattle.desk.specs.declared.reply.LineFault.TheVariants as faults
 use Rattle.desk.specs.Desk.{Coded, Fitted}
 use Rattle.texts.proofs.Filling.{filled_whole}
 
@@ -95,11 +96,11 @@ module _ {S : Type 0} (before : S → S → Bool) (capacity : ℕ) (room : ℕ) 
     unders_whole r k = answered_whole r (λ c. number before (lists s.vertices) (under before (codes s.vertices list) c)) k
 
 -- the spelled code, where the text spells one, and what is passed of it
-module _ {S : Type 0} (s : State S) (reply : Reply) (s' : State S) where
+module _ {S : Type 0} (s : State S) (reply : Result Reply LineFault) (s' : State S) where
   pub coded_ok : (spelled : Result (List S) TextFault) (code : List S) (calls : List S → Type 0) → spelled ≡ Ok code → calls code → Coded spelled s reply s' calls
   coded_ok spelled code calls e h = subst⁻¹ (λ x. Coded x s reply s' calls) e h
 
-  pub coded_err : (spelled : Result (List S) TextFault) (fault : TextFault) (calls : List S → Type 0) → spelled ≡ Err fault → reply ≡ text_reply fault → s' ≡ s → Coded spelled s reply s' calls
+  pub coded_err : (spelled : Result (List S) TextFault) (fault : TextFault) (calls : List S → Type 0) → spelled ≡ Err fault → reply ≡ Err (faults.Text fault) → s' ≡ s → Coded spelled s reply s' calls
   coded_err spelled fault calls e p q = subst⁻¹ (λ x. Coded x s reply s' calls) e (p, q)
 
   -- a call on what was read of a code, if it answers the same of the whole

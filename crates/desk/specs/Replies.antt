@@ -1,51 +1,45 @@
--- What the result of a call, or a text that spells no code, is answered; and the text of a reply.
-use Rattle.std.specs.Prelude.{◌≡◌, ℕ, ◌<◌, Bool, true, false, ◌⊎◌, List, length, take, Ok, Err, codes, decimal, Result}
+-- What the result of a call is answered, the refusal of a line, and the text of a reply.
+use Rattle.std.specs.Prelude.{◌≡◌, ℕ, ◌<◌, true, false, ◌⊎◌, List, length, take, Ok, Err, codes, decimal, Result}
+use Rattle.symbols.specs.declared.Refusal.{Refusal}
+use Rattle.symbols.specs.Refusals.{carrying, plain}
 use Rattle.commands.specs.declared.output.TooShort.{TooShort}
 use Rattle.commands.specs.Answers.{ended, refused_text}
 use Rattle.commands.specs.Outputs.{Starts}
 use Rattle.store.specs.declared.fault.Fault.{Fault}
 use Rattle.store.specs.Refusals as calls
-use Rattle.texts.specs.declared.TextFault.{TextFault}
 use Rattle.texts.specs.Refusals as texts
 use Rattle.desk.specs.declared.reply.Reply.{Reply}
-use Rattle.desk.specs.declared.reply.Reply.TheVariants.{List as a_list, Count, Truth, Picked, Refused}
+use Rattle.desk.specs.declared.reply.Reply.TheVariants.{List as a_list, Count, Truth, Picked}
+use Rattle.desk.specs.declared.reply.LineFault.{LineFault}
+use Rattle.desk.specs.declared.reply.LineFault.TheVariants.{Unreadable, Text, Store}
 
--- a list by its number, how many codes, yes or no, a code by its length; or the number of the refusal
-abbrev pub list_reply : Result ℕ Fault → Reply
-list_reply (Ok n) = a_list n
-list_reply (Err fault) = Refused (calls.refusal fault).number
+-- what a call answers, as a reply of this kind, or why the store refuses it
+abbrev pub told : {A : Type 0} → (A → Reply) → Result A Fault → Result Reply LineFault
+told kind (Ok a) = Ok (kind a)
+told kind (Err fault) = Err (Store fault)
 
-abbrev pub count_reply : Result ℕ Fault → Reply
-count_reply (Ok n) = Count n
-count_reply (Err fault) = Refused (calls.refusal fault).number
+-- the refusal of a line
+abbrev pub line_refusal : LineFault → Refusal
+line_refusal Unreadable = plain 18
+line_refusal (Text fault) = carrying (texts.refusal fault).number (texts.refusal fault).detail
+line_refusal (Store fault) = calls.refusal fault
 
-abbrev pub truth_reply : Result Bool Fault → Reply
-truth_reply (Ok b) = Truth b
-truth_reply (Err fault) = Refused (calls.refusal fault).number
-
-abbrev pub pick_reply : Result ℕ Fault → Reply
-pick_reply (Ok n) = Picked n
-pick_reply (Err fault) = Refused (calls.refusal fault).number
-
-abbrev pub text_reply : TextFault → Reply
-text_reply fault = Refused (texts.refusal fault).number
-
--- the answer line of a reply, where a picked code has this text
-abbrev pub reply_text : List ℕ → Reply → List ℕ
-reply_text text (a_list n) = ended (decimal n)
-reply_text text (Count n) = ended (decimal n)
-reply_text text (Truth true) = ended (codes "YES")
-reply_text text (Truth false) = ended (codes "NO")
-reply_text text (Picked n) = ended text
-reply_text text (Refused n) = ended (refused_text n)
+-- the answer line of a reply, where a picked code has this text; or that of the refusal, by its number
+abbrev pub reply_text : List ℕ → Result Reply LineFault → List ℕ
+reply_text text (Ok (a_list n)) = ended (decimal n)
+reply_text text (Ok (Count n)) = ended (decimal n)
+reply_text text (Ok (Truth true)) = ended (codes "YES")
+reply_text text (Ok (Truth false)) = ended (codes "NO")
+reply_text text (Ok (Picked n)) = ended text
+reply_text text (Err fault) = ended (refused_text (line_refusal fault).number)
 
 -- the code that a reply picks from a symbol output
-abbrev pub picked : {S : Type 0} → List S → Reply → List S
-picked out (a_list n) = take 0 out
-picked out (Count n) = take 0 out
-picked out (Truth b) = take 0 out
-picked out (Picked n) = take n out
-picked out (Refused n) = take 0 out
+abbrev pub picked : {S : Type 0} → List S → Result Reply LineFault → List S
+picked out (Ok (Picked n)) = take n out
+picked out (Ok (a_list n)) = take 0 out
+picked out (Ok (Count n)) = take 0 out
+picked out (Ok (Truth b)) = take 0 out
+picked out (Err fault) = take 0 out
 
 -- the answer line of a reply stands at the start of the output, whose rest is as it was; refused, with the output as it
 -- was, only if the line is longer than the output or than the room for a code's text

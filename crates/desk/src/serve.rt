@@ -1,16 +1,16 @@
 // Serving a line: it is read as a command, the command is called on the store, and the result is written.
-ghost use Rattle.std.specs.Prelude.{◌≡◌, ◌≤◌, List, length, IfOk};
+ghost use Rattle.std.specs.Prelude.{◌≡◌, ◌≤◌, List, length, Result, IfOk};
 ghost use Rattle.commands.specs.Grammar.{add as add_line, remove as remove_line, holds as holds_line, under as under_line};
 ghost use Rattle.commands.specs.Meaning.{meaning};
 ghost use Rattle.memory.specs.declared.work.Place.{Place};
 ghost use Rattle.store.specs.State.{state};
 ghost use Rattle.store.specs.Run.{Goes, Asks};
 ghost use Rattle.desk.specs.declared.reply.Reply.{Reply};
-ghost use Rattle.desk.specs.declared.reply.Reply.TheVariants.{Refused};
+ghost use Rattle.desk.specs.declared.reply.LineFault.{LineFault};
 ghost use Rattle.desk.specs.Replies.{picked, reply_text, Put};
 ghost use Rattle.desk.specs.Desk.{Fitted, Calls, Serves};
 
-use crate::reply::{Reply, UNREADABLE, of_count, of_list, of_pick, of_text, of_truth, write_reply};
+use crate::reply::{LineFault, Reply, write_reply};
 use commands::command::{Command, read_command};
 use commands::output::TooShort;
 use memory::recall::RecallTable;
@@ -25,10 +25,8 @@ fn read_text<S: TextSymbol>(text: &[u8], code: &mut [S]) -> Result<usize, TextFa
     ensures within { IfOk result (λ n. n ≤ length code.new) }
     ensures answer { Fitted (S.TextSymbol.spells text.now) (length code.old) result code.new }
 {
-    match S::read_code(text, code) {
-        Ok(n) => Ok(n.min(code.len())),
-        Err(fault) => Err(fault),
-    }
+    let n = S::read_code(text, code)?;
+    Ok(n.min(code.len()))
 }
 
 fn add<S: TextSymbol, B: Shelf<S>, R: RecallTable>(
@@ -37,14 +35,13 @@ fn add<S: TextSymbol, B: Shelf<S>, R: RecallTable>(
     text: &[u8],
     code: &mut [S],
     work: &mut [Place],
-) -> Reply
+) -> Result<Reply, LineFault>
     ensures answer { 65 ≤ length code.old → Goes S.Symbol.before (B.Shelf.capacity store.old.shelf) (B.Shelf.ready store.old.shelf) (state (B.Shelf.vertices store.old.shelf) (R.RecallTable.table store.old.recall)) (B.Shelf.ready store.new.shelf) (state (B.Shelf.vertices store.new.shelf) (R.RecallTable.table store.new.recall)) (Calls S.Symbol.before S.TextSymbol.spells (B.Shelf.capacity store.old.shelf) (state (B.Shelf.vertices store.old.shelf) (R.RecallTable.table store.old.recall)) work.old code.old (add_line list text.now) result (state (B.Shelf.vertices store.new.shelf) (R.RecallTable.table store.new.recall)) code.new) }
     ensures size { B.Shelf.capacity store.new.shelf ≡ B.Shelf.capacity store.old.shelf }
 {
-    match read_text(text, code) {
-        Ok(n) => of_list(store.add(list, &code[0..n], work)),
-        Err(fault) => of_text(fault),
-    }
+    let n = read_text(text, code)?;
+    let number = store.add(list, &code[0..n], work)?;
+    Ok(Reply::List(number))
 }
 
 fn remove<S: TextSymbol, B: Shelf<S>, R: RecallTable>(
@@ -53,14 +50,13 @@ fn remove<S: TextSymbol, B: Shelf<S>, R: RecallTable>(
     text: &[u8],
     code: &mut [S],
     work: &mut [Place],
-) -> Reply
+) -> Result<Reply, LineFault>
     ensures answer { 65 ≤ length code.old → Goes S.Symbol.before (B.Shelf.capacity store.old.shelf) (B.Shelf.ready store.old.shelf) (state (B.Shelf.vertices store.old.shelf) (R.RecallTable.table store.old.recall)) (B.Shelf.ready store.new.shelf) (state (B.Shelf.vertices store.new.shelf) (R.RecallTable.table store.new.recall)) (Calls S.Symbol.before S.TextSymbol.spells (B.Shelf.capacity store.old.shelf) (state (B.Shelf.vertices store.old.shelf) (R.RecallTable.table store.old.recall)) work.old code.old (remove_line list text.now) result (state (B.Shelf.vertices store.new.shelf) (R.RecallTable.table store.new.recall)) code.new) }
     ensures size { B.Shelf.capacity store.new.shelf ≡ B.Shelf.capacity store.old.shelf }
 {
-    match read_text(text, code) {
-        Ok(n) => of_list(store.remove(list, &code[0..n], work)),
-        Err(fault) => of_text(fault),
-    }
+    let n = read_text(text, code)?;
+    let number = store.remove(list, &code[0..n], work)?;
+    Ok(Reply::List(number))
 }
 
 fn holds<S: TextSymbol, B: Shelf<S>, R: RecallTable>(
@@ -68,13 +64,12 @@ fn holds<S: TextSymbol, B: Shelf<S>, R: RecallTable>(
     list: u32,
     text: &[u8],
     code: &mut [S],
-) -> Reply
+) -> Result<Reply, LineFault>
     ensures { 65 ≤ length code.old → (work : List Place) → Asks S.Symbol.before (B.Shelf.capacity store.now.shelf) (B.Shelf.ready store.now.shelf) (state (B.Shelf.vertices store.now.shelf) (R.RecallTable.table store.now.recall)) (Calls S.Symbol.before S.TextSymbol.spells (B.Shelf.capacity store.now.shelf) (state (B.Shelf.vertices store.now.shelf) (R.RecallTable.table store.now.recall)) work code.old (holds_line list text.now) result (state (B.Shelf.vertices store.now.shelf) (R.RecallTable.table store.now.recall)) code.new) }
 {
-    match read_text(text, code) {
-        Ok(n) => of_truth(store.holds(list, &code[0..n])),
-        Err(fault) => of_text(fault),
-    }
+    let n = read_text(text, code)?;
+    let holds = store.holds(list, &code[0..n])?;
+    Ok(Reply::Truth(holds))
 }
 
 fn under<S: TextSymbol, B: Shelf<S>, R: RecallTable>(
@@ -82,20 +77,12 @@ fn under<S: TextSymbol, B: Shelf<S>, R: RecallTable>(
     list: u32,
     text: &[u8],
     code: &mut [S],
-) -> Reply
+) -> Result<Reply, LineFault>
     ensures { 65 ≤ length code.old → (work : List Place) → Asks S.Symbol.before (B.Shelf.capacity store.now.shelf) (B.Shelf.ready store.now.shelf) (state (B.Shelf.vertices store.now.shelf) (R.RecallTable.table store.now.recall)) (Calls S.Symbol.before S.TextSymbol.spells (B.Shelf.capacity store.now.shelf) (state (B.Shelf.vertices store.now.shelf) (R.RecallTable.table store.now.recall)) work code.old (under_line list text.now) result (state (B.Shelf.vertices store.now.shelf) (R.RecallTable.table store.now.recall)) code.new) }
 {
-    match read_text(text, code) {
-        Ok(n) => of_list(store.under(list, &code[0..n])),
-        Err(fault) => of_text(fault),
-    }
-}
-
-// Writing a list and receiving one are not served yet.
-fn not_served() -> Reply
-    ensures { result ≡ Refused 18 }
-{
-    Reply::Refused(UNREADABLE)
+    let n = read_text(text, code)?;
+    let number = store.under(list, &code[0..n])?;
+    Ok(Reply::List(number))
 }
 
 fn perform<S: TextSymbol, B: Shelf<S>, R: RecallTable>(
@@ -103,7 +90,7 @@ fn perform<S: TextSymbol, B: Shelf<S>, R: RecallTable>(
     command: Command,
     code: &mut [S],
     work: &mut [Place],
-) -> Reply
+) -> Result<Reply, LineFault>
     ensures answer { 65 ≤ length code.old → Goes S.Symbol.before (B.Shelf.capacity store.old.shelf) (B.Shelf.ready store.old.shelf) (state (B.Shelf.vertices store.old.shelf) (R.RecallTable.table store.old.recall)) (B.Shelf.ready store.new.shelf) (state (B.Shelf.vertices store.new.shelf) (R.RecallTable.table store.new.recall)) (Calls S.Symbol.before S.TextSymbol.spells (B.Shelf.capacity store.old.shelf) (state (B.Shelf.vertices store.old.shelf) (R.RecallTable.table store.old.recall)) work.old code.old (meaning command.entry) result (state (B.Shelf.vertices store.new.shelf) (R.RecallTable.table store.new.recall)) code.new) }
     ensures size { B.Shelf.capacity store.new.shelf ≡ B.Shelf.capacity store.old.shelf }
 {
@@ -112,15 +99,15 @@ fn perform<S: TextSymbol, B: Shelf<S>, R: RecallTable>(
         Command::Remove { list, code: text } => remove(store, list, text, code, work),
         Command::Holds { list, code: text } => holds(store, list, text, code),
         Command::Under { list, code: text } => under(store, list, text, code),
-        Command::Count { list } => of_count(store.count(list, work)),
-        Command::Pick { list, k } => of_pick(store.pick(list, k, code, work)),
+        Command::Count { list } => Ok(Reply::Count(store.count(list, work)?)),
+        Command::Pick { list, k } => Ok(Reply::Picked(store.pick(list, k, code, work)?)),
         Command::Join {
             rule,
             first,
             second,
-        } => of_list(store.join(rule, first, second, work)),
-        Command::Write { list: _ } => not_served(),
-        Command::Receive { hex: _ } => not_served(),
+        } => Ok(Reply::List(store.join(rule, first, second, work)?)),
+        // Writing a list and receiving one are not served yet.
+        Command::Write { .. } | Command::Receive { .. } => Err(LineFault::Unreadable),
     }
 }
 
@@ -130,14 +117,12 @@ fn reply_to<S: TextSymbol, B: Shelf<S>, R: RecallTable>(
     line: &[u8],
     code: &mut [S],
     work: &mut [Place],
-) -> Reply
+) -> Result<Reply, LineFault>
     ensures answer { 65 ≤ length code.old → Goes S.Symbol.before (B.Shelf.capacity store.old.shelf) (B.Shelf.ready store.old.shelf) (state (B.Shelf.vertices store.old.shelf) (R.RecallTable.table store.old.recall)) (B.Shelf.ready store.new.shelf) (state (B.Shelf.vertices store.new.shelf) (R.RecallTable.table store.new.recall)) (Serves S.Symbol.before S.TextSymbol.spells (B.Shelf.capacity store.old.shelf) (state (B.Shelf.vertices store.old.shelf) (R.RecallTable.table store.old.recall)) work.old code.old line.now result (state (B.Shelf.vertices store.new.shelf) (R.RecallTable.table store.new.recall)) code.new) }
     ensures size { B.Shelf.capacity store.new.shelf ≡ B.Shelf.capacity store.old.shelf }
 {
-    match read_command(line) {
-        Some(command) => perform(store, command, code, work),
-        None => Reply::Refused(UNREADABLE),
-    }
+    let command = read_command(line).ok_or(LineFault::Unreadable)?;
+    perform(store, command, code, work)
 }
 
 // Serves a line, and writes its answer line to the start of `out`; answers the length. `code` is room for a code, 65
@@ -150,7 +135,7 @@ pub fn serve<S: TextSymbol, B: Shelf<S>, R: RecallTable>(
     text: &mut [u8],
     out: &mut [u8],
 ) -> Result<usize, TooShort>
-    ensures answer { (reply : Reply) × Put (reply_text (S.TextSymbol.text (picked code.new reply)) reply) text.old out.old result out.new × (65 ≤ length code.old → Goes S.Symbol.before (B.Shelf.capacity store.old.shelf) (B.Shelf.ready store.old.shelf) (state (B.Shelf.vertices store.old.shelf) (R.RecallTable.table store.old.recall)) (B.Shelf.ready store.new.shelf) (state (B.Shelf.vertices store.new.shelf) (R.RecallTable.table store.new.recall)) (Serves S.Symbol.before S.TextSymbol.spells (B.Shelf.capacity store.old.shelf) (state (B.Shelf.vertices store.old.shelf) (R.RecallTable.table store.old.recall)) work.old code.old line.now reply (state (B.Shelf.vertices store.new.shelf) (R.RecallTable.table store.new.recall)) code.new)) }
+    ensures answer { (reply : Result Reply LineFault) × Put (reply_text (S.TextSymbol.text (picked code.new reply)) reply) text.old out.old result out.new × (65 ≤ length code.old → Goes S.Symbol.before (B.Shelf.capacity store.old.shelf) (B.Shelf.ready store.old.shelf) (state (B.Shelf.vertices store.old.shelf) (R.RecallTable.table store.old.recall)) (B.Shelf.ready store.new.shelf) (state (B.Shelf.vertices store.new.shelf) (R.RecallTable.table store.new.recall)) (Serves S.Symbol.before S.TextSymbol.spells (B.Shelf.capacity store.old.shelf) (state (B.Shelf.vertices store.old.shelf) (R.RecallTable.table store.old.recall)) work.old code.old line.now reply (state (B.Shelf.vertices store.new.shelf) (R.RecallTable.table store.new.recall)) code.new)) }
     ensures size { B.Shelf.capacity store.new.shelf ≡ B.Shelf.capacity store.old.shelf }
 {
     let reply = reply_to(store, line, code, work);

@@ -12,7 +12,7 @@ returns-in-Ok g c =
     let wrote = c.in-Ok.ensures.answer in
     let t = text (take (c.min-length.result - 0) c.args.code.now) in
     let again = written_part t c.write_code.new.out (drop (length t) c.args.text.now) c.in-Ok.n wrote.1 wrote.2 in
-    let line = c.answer_of.ensures ∙ ap ended (again ∙ ap text part) in
+    let line = ap ended (again ∙ ap text part) in
     subst (λ l. Put l c.args.text.now c.args.out.now c.write_answer.result c.write_answer.new.out) line
     (put_alone _ c.args.text.now c.args.out.now c.write_answer.new.out c.write_answer.result c.write_answer.ensures.after)
 

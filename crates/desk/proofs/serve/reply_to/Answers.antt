@@ -1,14 +1,12 @@
-use Rattle.std.proofs.Common.{refl, inl, inr}
+use Rattle.std.proofs.Common.{ap, ◌∙◌, inl}
+use Rattle.std.specs.Option.{option_map}
+use Rattle.std.specs.Result.{result_ok}
 use Rattle.commands.specs.Meaning.{meaning}
 use Rattle.desk.proofs.serve.reply_to.Goals as goal
 
-pub returns-in-Some : goal.returns-in-Some
-returns-in-Some g c =
-    let l = meaning c.in-Some.command in
-    record {
-      answer = λ wide travel st. let goes = c.perform.ensures.answer wide travel st in (inl (l, (c.in-Some.ensures.answer l).0 refl, goes.0), goes.1);
-      size = c.perform.ensures.size;
-    }
-
-pub returns-in-None : goal.returns-in-None
-returns-in-None g c = record { answer = λ wide travel st. (inr (c.in-None.ensures.refused.0 refl, (refl, refl)), st); size = refl }
+pub returns-clause-answer : goal.returns-clause-answer
+returns-clause-answer g c wide travel st =
+    let l = meaning c.in_ok-command.command in
+    let goes = c.perform.ensures.answer wide travel st in
+    let reads = ap (option_map meaning) (c.ok_or.ensures.ok_part ∙ ap result_ok c.in_ok-command.was) in
+    (inl (l, (c.read_command.ensures.answer l).0 reads, goes.0), goes.1)
