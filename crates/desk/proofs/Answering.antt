@@ -3,15 +3,15 @@ use Rattle.std.proofs.Common.{◌≡◌, ℕ, ◌+◌, ◌-◌, ◌<◌, ◌≤�
 use lib.Seq.{take-append-add}
 use Rattle.std.proofs.lemmas.List.{take_all, take_at, length-take-le}
 use Rattle.std.proofs.lemmas.Bool.{cases_lt}
-use Rattle.commands.specs.declared.output.TooShort.{TooShort}
-use Rattle.commands.specs.Outputs.{Puts}
+use Rattle.symbols.specs.declared.ShortOutput.{ShortOutput}
+use Rattle.texts.specs.Texts.{WrittenTo}
 use Rattle.desk.specs.declared.reply.Reply.{Reply}
 use Rattle.desk.specs.declared.reply.Reply.TheVariants.{List as a_list, Count, Truth, Picked}
 use Rattle.desk.specs.declared.reply.LineFault.{LineFault}
 use Rattle.desk.specs.Replies.{reply_text, Put}
 
 -- what is put at the start of the output alone
-pub put_alone : (line room old new : List ℕ) (r : Result ℕ TooShort) → Puts line old new r → Put line room old r new
+pub put_alone : (line room old new : List ℕ) (r : Result ℕ ShortOutput) → WrittenTo line old r new → Put line room old r new
 put_alone line room old new (Ok n) h = h
 put_alone line room old new (Err e) h = (inl h.0, h.1)
 

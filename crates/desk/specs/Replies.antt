@@ -1,13 +1,13 @@
 -- What the result of a call is answered, the refusal of a line, and the text of a reply.
 use Rattle.std.specs.Prelude.{◌≡◌, ℕ, ◌<◌, true, false, ◌⊎◌, List, length, take, Ok, Err, codes, decimal, Result}
 use Rattle.symbols.specs.declared.Refusal.{Refusal}
-use Rattle.symbols.specs.Refusals.{carrying, plain}
-use Rattle.commands.specs.declared.output.TooShort.{TooShort}
+use Rattle.symbols.specs.Refusals.{plain}
+use Rattle.symbols.specs.declared.ShortOutput.{ShortOutput}
 use Rattle.commands.specs.Answers.{ended, refused_text}
-use Rattle.commands.specs.Outputs.{Starts}
 use Rattle.store.specs.declared.fault.Fault.{Fault}
 use Rattle.store.specs.Refusals as calls
 use Rattle.texts.specs.Refusals as texts
+use Rattle.texts.specs.Texts.{Starts}
 use Rattle.desk.specs.declared.reply.Reply.{Reply}
 use Rattle.desk.specs.declared.reply.Reply.TheVariants.{List as a_list, Count, Truth, Picked}
 use Rattle.desk.specs.declared.reply.LineFault.{LineFault}
@@ -21,7 +21,7 @@ told kind (Err fault) = Err (Store fault)
 -- the refusal of a line
 abbrev pub line_refusal : LineFault → Refusal
 line_refusal Unreadable = plain 18
-line_refusal (Text fault) = carrying (texts.refusal fault).number (texts.refusal fault).detail
+line_refusal (Text fault) = texts.refusal fault
 line_refusal (Store fault) = calls.refusal fault
 
 -- the answer line of a reply, where a picked code has this text; or that of the refusal, by its number
@@ -43,6 +43,6 @@ picked out (Err fault) = take 0 out
 
 -- the answer line of a reply stands at the start of the output, whose rest is as it was; refused, with the output as it
 -- was, only if the line is longer than the output or than the room for a code's text
-abbrev pub Put : List ℕ → List ℕ → List ℕ → Result ℕ TooShort → List ℕ → Type 0
+abbrev pub Put : List ℕ → List ℕ → List ℕ → Result ℕ ShortOutput → List ℕ → Type 0
 Put line room old (Ok n) new = Starts line old new n
 Put line room old (Err short) new = ((length old < length line) ⊎ (length room < length line)) × (new ≡ old)

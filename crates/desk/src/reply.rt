@@ -5,9 +5,8 @@ ghost use Rattle.std.specs.Prelude.{◌≡◌, take, Ok};
 ghost use Rattle.commands.specs.Answers.{answer_text, ended};
 
 use commands::answer::{Answer, write_answer};
-use commands::output::TooShort;
 use store::fault::Fault;
-use symbols::Refusal;
+use symbols::{Refusal, ShortOutput};
 use texts::{TextFault, TextSymbol};
 
 #[derive(Clone, Copy, Debug, PartialEq, Eq)]
@@ -55,12 +54,8 @@ impl From<LineFault> for Refusal {
                 detail: 0,
                 symbol: None,
             },
-            LineFault::Text(fault) => Refusal {
-                number: fault.number(),
-                detail: usize::from(fault.detail()),
-                symbol: None,
-            },
-            LineFault::Store(fault) => fault.refusal(),
+            LineFault::Text(fault) => Refusal::from(fault),
+            LineFault::Store(fault) => Refusal::from(fault),
         }
     }
 }
@@ -86,14 +81,12 @@ fn write_picked<S: TextSymbol>(
     code: &[S],
     text: &mut [u8],
     out: &mut [u8],
-) -> Result<usize, TooShort>
+) -> Result<usize, ShortOutput>
     ensures { Put (ended (S.TextSymbol.text (take length code.now))) text.old out.old result out.new }
 {
     let length = length.min(code.len());
-    match S::write_code(&code[0..length], text) {
-        Ok(n) => write_answer(Answer::Code(&text[0..n]), out),
-        Err(_) => Err(TooShort),
-    }
+    let n = S::write_code(&code[0..length], text)?;
+    write_answer(Answer::Code(&text[0..n]), out)
 }
 
 // Writes the answer line of a reply to the start of `out`, and answers its length. Where the reply is a code, it stands in
@@ -103,7 +96,7 @@ pub fn write_reply<S: TextSymbol>(
     code: &[S],
     text: &mut [u8],
     out: &mut [u8],
-) -> Result<usize, TooShort>
+) -> Result<usize, ShortOutput>
     ensures { Put (reply_text (S.TextSymbol.text (picked code.now reply)) reply) text.old out.old result out.new }
 {
     match reply {

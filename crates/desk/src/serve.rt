@@ -3,8 +3,7 @@ ghost use Rattle.std.specs.Prelude.{◌≡◌, ◌≤◌, List, length, Result, 
 ghost use Rattle.commands.specs.Grammar.{add as add_line, remove as remove_line, holds as holds_line, under as under_line};
 ghost use Rattle.commands.specs.Meaning.{meaning};
 ghost use Rattle.memory.specs.declared.work.Place.{Place};
-ghost use Rattle.store.specs.State.{state};
-ghost use Rattle.store.specs.Run.{Goes, Asks};
+ghost use Rattle.store.specs.State.{seen};
 ghost use Rattle.desk.specs.declared.reply.Reply.{Reply};
 ghost use Rattle.desk.specs.declared.reply.LineFault.{LineFault};
 ghost use Rattle.desk.specs.Replies.{picked, reply_text, Put};
@@ -12,11 +11,11 @@ ghost use Rattle.desk.specs.Desk.{Fitted, Calls, Serves};
 
 use crate::reply::{LineFault, Reply, write_reply};
 use commands::command::{Command, read_command};
-use commands::output::TooShort;
 use memory::recall::RecallTable;
 use memory::shelf::Shelf;
 use memory::work::Place;
 use store::store::Store;
+use symbols::ShortOutput;
 use texts::{TextFault, TextSymbol};
 
 // Reads the code of a text to the start of `code`, as far as there is room, and answers how many symbols stand there.
@@ -36,8 +35,8 @@ fn add<S: TextSymbol, B: Shelf<S>, R: RecallTable>(
     code: &mut [S],
     work: &mut [Place],
 ) -> Result<Reply, LineFault>
-    ensures answer { 65 ≤ length code.old → Goes S.Symbol.before (B.Shelf.capacity store.old.shelf) (B.Shelf.ready store.old.shelf) (state (B.Shelf.vertices store.old.shelf) (R.RecallTable.table store.old.recall)) (B.Shelf.ready store.new.shelf) (state (B.Shelf.vertices store.new.shelf) (R.RecallTable.table store.new.recall)) (Calls S.Symbol.before S.TextSymbol.spells (B.Shelf.capacity store.old.shelf) (state (B.Shelf.vertices store.old.shelf) (R.RecallTable.table store.old.recall)) work.old code.old (add_line list text.now) result (state (B.Shelf.vertices store.new.shelf) (R.RecallTable.table store.new.recall)) code.new) }
-    ensures size { B.Shelf.capacity store.new.shelf ≡ B.Shelf.capacity store.old.shelf }
+    ensures answer { 65 ≤ length code.old → Calls S.Symbol.before S.TextSymbol.spells store.old.capacity (seen R.RecallTable.table store.old) work.old code.old (add_line list text.now) result (seen R.RecallTable.table store.new) code.new }
+    ensures size { store.new.capacity ≡ store.old.capacity }
 {
     let n = read_text(text, code)?;
     let number = store.add(list, &code[0..n], work)?;
@@ -51,8 +50,8 @@ fn remove<S: TextSymbol, B: Shelf<S>, R: RecallTable>(
     code: &mut [S],
     work: &mut [Place],
 ) -> Result<Reply, LineFault>
-    ensures answer { 65 ≤ length code.old → Goes S.Symbol.before (B.Shelf.capacity store.old.shelf) (B.Shelf.ready store.old.shelf) (state (B.Shelf.vertices store.old.shelf) (R.RecallTable.table store.old.recall)) (B.Shelf.ready store.new.shelf) (state (B.Shelf.vertices store.new.shelf) (R.RecallTable.table store.new.recall)) (Calls S.Symbol.before S.TextSymbol.spells (B.Shelf.capacity store.old.shelf) (state (B.Shelf.vertices store.old.shelf) (R.RecallTable.table store.old.recall)) work.old code.old (remove_line list text.now) result (state (B.Shelf.vertices store.new.shelf) (R.RecallTable.table store.new.recall)) code.new) }
-    ensures size { B.Shelf.capacity store.new.shelf ≡ B.Shelf.capacity store.old.shelf }
+    ensures answer { 65 ≤ length code.old → Calls S.Symbol.before S.TextSymbol.spells store.old.capacity (seen R.RecallTable.table store.old) work.old code.old (remove_line list text.now) result (seen R.RecallTable.table store.new) code.new }
+    ensures size { store.new.capacity ≡ store.old.capacity }
 {
     let n = read_text(text, code)?;
     let number = store.remove(list, &code[0..n], work)?;
@@ -65,7 +64,7 @@ fn holds<S: TextSymbol, B: Shelf<S>, R: RecallTable>(
     text: &[u8],
     code: &mut [S],
 ) -> Result<Reply, LineFault>
-    ensures { 65 ≤ length code.old → (work : List Place) → Asks S.Symbol.before (B.Shelf.capacity store.now.shelf) (B.Shelf.ready store.now.shelf) (state (B.Shelf.vertices store.now.shelf) (R.RecallTable.table store.now.recall)) (Calls S.Symbol.before S.TextSymbol.spells (B.Shelf.capacity store.now.shelf) (state (B.Shelf.vertices store.now.shelf) (R.RecallTable.table store.now.recall)) work code.old (holds_line list text.now) result (state (B.Shelf.vertices store.now.shelf) (R.RecallTable.table store.now.recall)) code.new) }
+    ensures { 65 ≤ length code.old → (work : List Place) → Calls S.Symbol.before S.TextSymbol.spells store.now.capacity (seen R.RecallTable.table store.now) work code.old (holds_line list text.now) result (seen R.RecallTable.table store.now) code.new }
 {
     let n = read_text(text, code)?;
     let holds = store.holds(list, &code[0..n])?;
@@ -78,7 +77,7 @@ fn under<S: TextSymbol, B: Shelf<S>, R: RecallTable>(
     text: &[u8],
     code: &mut [S],
 ) -> Result<Reply, LineFault>
-    ensures { 65 ≤ length code.old → (work : List Place) → Asks S.Symbol.before (B.Shelf.capacity store.now.shelf) (B.Shelf.ready store.now.shelf) (state (B.Shelf.vertices store.now.shelf) (R.RecallTable.table store.now.recall)) (Calls S.Symbol.before S.TextSymbol.spells (B.Shelf.capacity store.now.shelf) (state (B.Shelf.vertices store.now.shelf) (R.RecallTable.table store.now.recall)) work code.old (under_line list text.now) result (state (B.Shelf.vertices store.now.shelf) (R.RecallTable.table store.now.recall)) code.new) }
+    ensures { 65 ≤ length code.old → (work : List Place) → Calls S.Symbol.before S.TextSymbol.spells store.now.capacity (seen R.RecallTable.table store.now) work code.old (under_line list text.now) result (seen R.RecallTable.table store.now) code.new }
 {
     let n = read_text(text, code)?;
     let number = store.under(list, &code[0..n])?;
@@ -91,8 +90,8 @@ fn perform<S: TextSymbol, B: Shelf<S>, R: RecallTable>(
     code: &mut [S],
     work: &mut [Place],
 ) -> Result<Reply, LineFault>
-    ensures answer { 65 ≤ length code.old → Goes S.Symbol.before (B.Shelf.capacity store.old.shelf) (B.Shelf.ready store.old.shelf) (state (B.Shelf.vertices store.old.shelf) (R.RecallTable.table store.old.recall)) (B.Shelf.ready store.new.shelf) (state (B.Shelf.vertices store.new.shelf) (R.RecallTable.table store.new.recall)) (Calls S.Symbol.before S.TextSymbol.spells (B.Shelf.capacity store.old.shelf) (state (B.Shelf.vertices store.old.shelf) (R.RecallTable.table store.old.recall)) work.old code.old (meaning command.entry) result (state (B.Shelf.vertices store.new.shelf) (R.RecallTable.table store.new.recall)) code.new) }
-    ensures size { B.Shelf.capacity store.new.shelf ≡ B.Shelf.capacity store.old.shelf }
+    ensures answer { 65 ≤ length code.old → Calls S.Symbol.before S.TextSymbol.spells store.old.capacity (seen R.RecallTable.table store.old) work.old code.old (meaning command.entry) result (seen R.RecallTable.table store.new) code.new }
+    ensures size { store.new.capacity ≡ store.old.capacity }
 {
     match command {
         Command::Add { list, code: text } => add(store, list, text, code, work),
@@ -118,8 +117,8 @@ fn reply_to<S: TextSymbol, B: Shelf<S>, R: RecallTable>(
     code: &mut [S],
     work: &mut [Place],
 ) -> Result<Reply, LineFault>
-    ensures answer { 65 ≤ length code.old → Goes S.Symbol.before (B.Shelf.capacity store.old.shelf) (B.Shelf.ready store.old.shelf) (state (B.Shelf.vertices store.old.shelf) (R.RecallTable.table store.old.recall)) (B.Shelf.ready store.new.shelf) (state (B.Shelf.vertices store.new.shelf) (R.RecallTable.table store.new.recall)) (Serves S.Symbol.before S.TextSymbol.spells (B.Shelf.capacity store.old.shelf) (state (B.Shelf.vertices store.old.shelf) (R.RecallTable.table store.old.recall)) work.old code.old line.now result (state (B.Shelf.vertices store.new.shelf) (R.RecallTable.table store.new.recall)) code.new) }
-    ensures size { B.Shelf.capacity store.new.shelf ≡ B.Shelf.capacity store.old.shelf }
+    ensures answer { 65 ≤ length code.old → Serves S.Symbol.before S.TextSymbol.spells store.old.capacity (seen R.RecallTable.table store.old) work.old code.old line.now result (seen R.RecallTable.table store.new) code.new }
+    ensures size { store.new.capacity ≡ store.old.capacity }
 {
     let command = read_command(line).ok_or(LineFault::Unreadable)?;
     perform(store, command, code, work)
@@ -134,9 +133,9 @@ pub fn serve<S: TextSymbol, B: Shelf<S>, R: RecallTable>(
     work: &mut [Place],
     text: &mut [u8],
     out: &mut [u8],
-) -> Result<usize, TooShort>
-    ensures answer { (reply : Result Reply LineFault) × Put (reply_text (S.TextSymbol.text (picked code.new reply)) reply) text.old out.old result out.new × (65 ≤ length code.old → Goes S.Symbol.before (B.Shelf.capacity store.old.shelf) (B.Shelf.ready store.old.shelf) (state (B.Shelf.vertices store.old.shelf) (R.RecallTable.table store.old.recall)) (B.Shelf.ready store.new.shelf) (state (B.Shelf.vertices store.new.shelf) (R.RecallTable.table store.new.recall)) (Serves S.Symbol.before S.TextSymbol.spells (B.Shelf.capacity store.old.shelf) (state (B.Shelf.vertices store.old.shelf) (R.RecallTable.table store.old.recall)) work.old code.old line.now reply (state (B.Shelf.vertices store.new.shelf) (R.RecallTable.table store.new.recall)) code.new)) }
-    ensures size { B.Shelf.capacity store.new.shelf ≡ B.Shelf.capacity store.old.shelf }
+) -> Result<usize, ShortOutput>
+    ensures answer { (reply : Result Reply LineFault) × Put (reply_text (S.TextSymbol.text (picked code.new reply)) reply) text.old out.old result out.new × (65 ≤ length code.old → (Serves S.Symbol.before S.TextSymbol.spells store.old.capacity (seen R.RecallTable.table store.old) work.old code.old line.now reply (seen R.RecallTable.table store.new) code.new)) }
+    ensures size { store.new.capacity ≡ store.old.capacity }
 {
     let reply = reply_to(store, line, code, work);
     write_reply(reply, code, text, out)
