@@ -16,7 +16,7 @@ fn marked(marks: &[Place]) -> u32
     marks.iter().filter(|place| place.state != 0).count() as u32
 }
 
-// How many vertices are reached from the number.
+// How many vertices are reached from the number: they have no higher number, so it looks at no others.
 pub fn vertices<S: Symbol, B: Shelf<S>>(shelf: &B, list: u32, work: &mut [Place]) -> u32
     requires { list < length work.old }
     ensures { Formed S.Symbol.before (B.Shelf.vertices shelf.now) → Counts (Reached (B.Shelf.vertices shelf.now) list) result }
