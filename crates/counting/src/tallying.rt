@@ -18,24 +18,15 @@ pub(crate) struct Tally {
     pub(crate) empty: bool,
 }
 
-// The states of a place: the count is in it, or is 2^64 or more.
-const COUNTED: u32 = 0;
-
-const TOO_MANY: u32 = 1;
-
-// The place that keeps a tally.
+// The place that keeps a tally: its state is 0 where the count is in it, and a plain number, as all that a place keeps.
 impl From<Tally> for Place {
     ghost from_gives = { λ t p. held p ≡ t };
 
     fn from(tally: Tally) -> Place {
-        let (state, count) = match tally.codes {
-            Some(count) => (COUNTED, count),
-            None => (TOO_MANY, 0),
-        };
         Place {
-            state,
+            state: u32::from(tally.codes.is_none()),
             number: u32::from(tally.empty),
-            count,
+            count: tally.codes.unwrap_or(0),
             ..Place::default()
         }
     }
@@ -47,7 +38,7 @@ impl From<Place> for Tally {
 
     fn from(place: Place) -> Tally {
         Tally {
-            codes: (place.state == COUNTED).then_some(place.count),
+            codes: (place.state == 0).then_some(place.count),
             empty: place.number != 0,
         }
     }
@@ -92,6 +83,7 @@ pub(crate) fn tally_up_to<S: Symbol, B: Shelf<S>>(shelf: &B, list: u32, work: &m
     requires { list < length work.old }
     ensures { Sound S.Symbol.before (B.Shelf.vertices shelf.now) → Good (B.Shelf.vertices shelf.now) list → Tallied (B.Shelf.vertices shelf.now) (list + 1) work.new }
 {
+    // By index: each tally is made from those in lower places of the run that it is written to.
     for n in 0..=list {
         work[n as usize] = Place::from(tally_of(shelf, n, work));
     }

@@ -53,7 +53,7 @@ reached_then (over_zero v p q) r = over_zero v p (reached_then q r)
 reached_then (over_one v p q) r = over_one v p (reached_then q r)
 
 -- only a vertex reaches anything
-reached_by : {S : Type 0} {vs : List (Vertex S)} {n k : ℕ} → Reached vs n k → (v : Vertex S) × (look vs n ≡ Some v)
+pub reached_by : {S : Type 0} {vs : List (Vertex S)} {n k : ℕ} → Reached vs n k → (v : Vertex S) × (look vs n ≡ Some v)
 reached_by (itself v p e) = (v, p)
 reached_by (over_zero v p r) = (v, p)
 reached_by (over_one v p r) = (v, p)

@@ -1,6 +1,7 @@
 // Gathering by marks, as far as it is the same on every shelf: place k speaks of the vertex with number k + 2.
 //
 // The marks are counted once, and each place then has its vertex's new number; after that a link costs one read.
+// Places are handed over as plain slices, as shelves and walks are lent them; one parameter is no more than a `self`.
 ghost use Rattle.std.specs.Prelude.{◌≡◌, ◌+◌, ◌≤◌, true, ◌↔◌, length};
 ghost use Rattle.ledger.specs.Gather.{marked_before, renumber, renumbered, Marked};
 ghost use Rattle.memory.specs.Marks.{noted, noted_vertex, Stays, BothStay};
@@ -29,12 +30,10 @@ pub fn number_marks(marks: &mut [Place]) -> u32
 pub fn is_marked(marks: &[Place], n: u32) -> bool
     ensures { (result ≡ true) ↔ Marked (marks_in marks.now) n }
 {
-    if n < 2 {
-        return true;
-    }
-    marks
-        .get((n - 2) as usize)
-        .is_some_and(|place| place.state != 0)
+    n < 2
+        || marks
+            .get((n - 2) as usize)
+            .is_some_and(|place| place.state != 0)
 }
 
 // Whether a link of the vertex `own` may stay: it leads below `own`, to a terminal or to a marked vertex.

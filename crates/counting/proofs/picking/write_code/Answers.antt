@@ -17,20 +17,13 @@ loop-next-preserved g c =
           (goes.0, goes.1 ∙ came.1),
     )
 
-pub returns : goal.returns
-returns g c =
+pub returns-clause-value : goal.returns-clause-value
+returns-clause-value g c = λ sound tallied stands short.
     let low = c.loop-next.invariant.0 in
-    let small = c.loop-next.invariant.1 in
     let same = c.in_default.ensures.kept in
-    let kept = ap (drop c.loop-next.course.length) same ∙ c.loop-next.invariant.2 in
-    let long = ap length same in
-    record {
-      kept = (small, kept);
-      value = λ sound tallied stands short.
-          let came = c.loop-next.invariant.3 sound tallied stands in
-          let ends = c.in_default.ensures.value sound (λ k h. tallied k (omega arith)) came.0 in
-          whole_writes g.S.Symbol.before g.met.S.Symbol.ordered (g.B.Shelf.vertices c.args.shelf.now) c.loop-next.course
-          (codes (g.B.Shelf.vertices c.args.shelf.now) c.args.spot.list) c.args.spot.before c.args.out.now c.advance.new.out
-          (omega arith) small kept short
-          (ap (whole (g.B.Shelf.vertices c.args.shelf.now) c.loop-next.course) same ∙ came.1) ends.0 ends.1 ends.2;
-    }
+    let came = c.loop-next.invariant.3 sound tallied stands in
+    let ends = c.in_default.ensures.value sound (λ k h. tallied k (omega arith)) came.0 in
+    whole_writes g.S.Symbol.before g.met.S.Symbol.ordered (g.B.Shelf.vertices c.args.shelf.now) c.loop-next.course
+    (codes (g.B.Shelf.vertices c.args.shelf.now) c.args.spot.list) c.args.spot.before c.args.out.now c.advance.new.out
+    (let long = ap length same in omega arith) c.loop-next.invariant.1 (ap (drop c.loop-next.course.length) same ∙ c.loop-next.invariant.2) short
+    (ap (whole (g.B.Shelf.vertices c.args.shelf.now) c.loop-next.course) same ∙ came.1) ends.0 ends.1 ends.2

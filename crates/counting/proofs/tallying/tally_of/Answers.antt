@@ -1,16 +1,9 @@
 use mathlib.Core.Path.{subst⁻¹}
 use Rattle.std.proofs.Common.{arith}
 use Rattle.ledger.specs.Ledger.{codes}
-use Rattle.memory.proofs.Looks.{unlooked}
 use Rattle.counting.specs.Tallies.{Tells}
-use Rattle.counting.proofs.Sizes.{read_codes, tells_terminal, tells_begun}
+use Rattle.counting.proofs.Sizes.{read_codes, tells_begun}
 use Rattle.counting.proofs.tallying.tally_of.Goals as goal
-
-pub returns-in_default : goal.returns-in_default
-returns-in_default g c = λ sound good tallied.
-    rw c.from.ensures
-    (tells_terminal (g.B.Shelf.vertices c.args.shelf.now) c.args.n good
-    (unlooked (g.B.Shelf.vertices c.args.shelf.now) c.args.n (c.in_default.ensures.value sound.formed)))
 
 pub returns : goal.returns
 returns g c = λ sound good tallied.
