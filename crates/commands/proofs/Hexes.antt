@@ -8,24 +8,6 @@ use Rattle.std.proofs.lemmas.Bool.Decides.{nat_tests}
 use Rattle.commands.specs.Hexadecimals.{digit, hexadecimal, Bytes, Writes, Hexadecimal}
 use Rattle.commands.specs.Reading.{is_digit, all_digits, is_text}
 
--- the test of a text, as a loop goes over it
-module _ (bs : List ℕ) (i : ℕ) where
-  pub text_stops : i < length bs → all_digits bs ≡ all_digits (drop i bs) → is_digit (get_or bs i 0) ≡ false → is_text bs ≡ false
-  text_stops l h e =
-      let here : all_digits (drop i bs) ≡ (is_digit (get_or bs i 0) && all_digits (drop (i + 1) bs)) = at_drop_more all_digits bs i 0 l in
-      let none : all_digits bs ≡ false = h ∙ here ∙ ap (λ t. t && all_digits (drop (i + 1) bs)) e in
-      ap (λ t. t && eqb (length bs % 2) 0) none
-
-  pub text_more : i < length bs → all_digits bs ≡ all_digits (drop i bs) → is_digit (get_or bs i 0) ≡ true → all_digits bs ≡ all_digits (drop (i + 1) bs)
-  text_more l h e =
-      let here : all_digits (drop i bs) ≡ (is_digit (get_or bs i 0) && all_digits (drop (i + 1) bs)) = at_drop_more all_digits bs i 0 l in
-      h ∙ here ∙ ap (λ t. t && all_digits (drop (i + 1) bs)) e
-
-  pub text_ends : length bs ≤ i → all_digits bs ≡ all_digits (drop i bs) → is_text bs ≡ eqb (length bs % 2) 0
-  text_ends l h =
-      let all : all_digits bs ≡ true = h ∙ at_drop_all all_digits bs i l in
-      ap (λ t. t && eqb (length bs % 2) 0) all
-
 -- the number that a digit stands for
 digit_below : (b : ℕ) → is_digit b ≡ true → (v : ℕ) × (v < 16) × (digit v ≡ b)
 digit_below b h = by (leb b 57) refl

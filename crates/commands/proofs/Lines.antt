@@ -2,12 +2,12 @@
 use Rattle.std.proofs.Common.{◌≡◌, ℕ, ◌^◌, ◌<◌, ◌≤◌, Bool, true, false, cond, eqb, ◌↔◌, List, [], ◌∷◌, ◌++◌, length, Some, None, codes, decimal, Option, sym, refl, ap, ◌∙◌, arith}
 use Rattle.std.proofs.lemmas.Slice.Eq.{bytes_eq-Decides}
 use Rattle.std.proofs.lemmas.Bool.{eqb-true, ne_eqb}
-use Rattle.std.specs.Option.{option_map}
+use Rattle.std.specs.Option.{option_map, option_and_then}
 use Rattle.std.specs.Str.{bytes_eq}
 use Rattle.commands.specs.declared.command.Word.{Word}
 use Rattle.commands.specs.declared.command.Word.TheVariants as words
 use Rattle.commands.specs.Grammar.{Line, add, remove, holds, under, count, write, pick, join, receive, spaced, written, InRange, Says}
-use Rattle.commands.specs.Reading.{onto, longer, field_of, number_of, narrow_of, listed, is_text, word_of, fields_of, line_of}
+use Rattle.commands.specs.Reading.{longer, field_of, number_of, narrow_of, listed, is_text, word_of, fields_of, line_of}
 use Rattle.commands.proofs.Hexes.{text_sound, text_complete}
 use Rattle.commands.proofs.Numbers.{Holds, holds_onto, holds_mapped, holds_weaker, holds_cond, Figures, Number, decimal_figures, number_sound, narrow_sound, number_decimal, narrow_decimal}
 
@@ -105,7 +105,7 @@ fields_sound bs words.Pick =
     holds_mapped (Number 64 q.1) (Fielded (codes "PICK") bs) (pick q.0) (number_of q.1) (number_sound q.1)
     (λ k e. ((h.0, e.0), ap (λ s. after_word (codes "PICK") (after_word (decimal q.0) s)) e.1 ∙ ap (after_word (codes "PICK")) h.1)))
 fields_sound bs words.Join =
-    holds_onto (Listed bs) (Fielded (codes "JOIN") bs) (λ q. onto (λ p. option_map (join q.0 p.0) (narrow_of p.1)) (listed q.1)) (listed bs) (listed_sound bs)
+    holds_onto (Listed bs) (Fielded (codes "JOIN") bs) (λ q. option_and_then (λ p. option_map (join q.0 p.0) (narrow_of p.1)) (listed q.1)) (listed bs) (listed_sound bs)
     (λ q h.
     holds_onto (Listed q.1) (Fielded (codes "JOIN") bs) (λ p. option_map (join q.0 p.0) (narrow_of p.1)) (listed q.1) (listed_sound q.1)
     (λ p f.
@@ -124,7 +124,7 @@ Written bs l = InRange l × (written l ≡ bs)
 
 line_sound : (bs : List ℕ) → Holds (Written bs) (line_of bs)
 line_sound bs =
-    holds_onto (Parts bs) (Written bs) (λ p. onto (fields_of p.1) (word_of p.0)) (field_of bs) (field_sound bs)
+    holds_onto (Parts bs) (Written bs) (λ p. option_and_then (fields_of p.1) (word_of p.0)) (field_of bs) (field_sound bs)
     (λ p e.
     holds_onto (Named p.0) (Written bs) (fields_of p.1) (word_of p.0) (word_sound p.0)
     (λ w n.

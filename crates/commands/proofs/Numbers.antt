@@ -3,18 +3,18 @@ use Rattle.std.proofs.Common.{◌≡◌, ℕ, zero, suc, ◌+◌, ◌-◌, ◌*�
 use Rattle.std.proofs.lemmas.Fmt.{decimal_by_steps, decimal-digits_value, digits_decimal, decimal_digit, decimal_nonempty, first_decimal}
 use Rattle.std.proofs.lemmas.Str.Parse.{IsNumeralModel, numerals_by_fold}
 use Rattle.std.proofs.lemmas.Bool.{ltb-true, ltb-false, lt-ltb, le-ltb, leb-true, le-leb, ne_eqb, not-true, eqb-false, and_parts}
-use Rattle.std.specs.Option.{option_map}
+use Rattle.std.specs.Option.{option_map, option_and_then}
 use Rattle.std.specs.Int.{IsInRange}
 use Rattle.std.specs.List.{AllByRecursion}
 use Rattle.texts.specs.Decimals.{pushed}
-use Rattle.commands.specs.Reading.{onto, number_after, plain, number_of, narrow, narrow_of}
+use Rattle.commands.specs.Reading.{number_after, plain, number_of, narrow, narrow_of}
 
 -- what was found has the property
 abbrev pub Holds : {A : Type 0} → (A → Type 0) → Option A → Type 0
 Holds P o = IfSome o P
 
 module _ {A B : Type 0} (P : A → Type 0) (Q : B → Type 0) where
-  pub holds_onto : (f : A → Option B) (o : Option A) → Holds P o → ((x : A) → P x → Holds Q (f x)) → Holds Q (onto f o)
+  pub holds_onto : (f : A → Option B) (o : Option A) → Holds P o → ((x : A) → P x → Holds Q (f x)) → Holds Q (option_and_then f o)
   holds_onto f None h k = tt
   holds_onto f (Some x) h k = k x h
 
@@ -106,15 +106,15 @@ grown_digit n d h k =
     let fits : ltb (n * 10 + d) 18446744073709551616 ≡ true = lt-ltb _ _ (omega arith) in
     rw (same, low, high, fits)
 
-after_push : (n : ℕ) (ds : List ℕ) (b : ℕ) → number_after n (ds ++ (b ∷ [])) ≡ onto (λ m. pushed m b) (number_after n ds)
+after_push : (n : ℕ) (ds : List ℕ) (b : ℕ) → number_after n (ds ++ (b ∷ [])) ≡ option_and_then (λ m. pushed m b) (number_after n ds)
 after_push n [] b = single (pushed n b)
   where
-    single : (o : Option ℕ) → onto (λ m. Some m) o ≡ o
+    single : (o : Option ℕ) → option_and_then (λ m. Some m) o ≡ o
     single None = refl
     single (Some x) = refl
 after_push n (d ∷ ds) b = through (pushed n d) (λ m. after_push m ds b)
   where
-    through : (o : Option ℕ) → ((m : ℕ) → number_after m (ds ++ (b ∷ [])) ≡ onto (λ k. pushed k b) (number_after m ds)) → onto (λ m. number_after m (ds ++ (b ∷ []))) o ≡ onto (λ k. pushed k b) (onto (λ m. number_after m ds) o)
+    through : (o : Option ℕ) → ((m : ℕ) → number_after m (ds ++ (b ∷ [])) ≡ option_and_then (λ k. pushed k b) (number_after m ds)) → option_and_then (λ m. number_after m (ds ++ (b ∷ []))) o ≡ option_and_then (λ k. pushed k b) (option_and_then (λ m. number_after m ds) o)
     through None h = refl
     through (Some x) h = h x
 
@@ -123,7 +123,7 @@ after_decimal n h =
     decimal_by_steps (λ m ds. m < 2 ^ 64 → number_after 0 ds ≡ Some m)
     (λ m small _. after_push 0 [] (48 + m) ∙ grown_digit 0 m small (omega arith) ∙ ap (λ k. Some k) (omega arith))
     (λ m ds big before fits.
-    after_push 0 ds (48 + m % 10) ∙ ap (onto (λ k. pushed k (48 + m % 10))) (before (omega arith))
+    after_push 0 ds (48 + m % 10) ∙ ap (option_and_then (λ k. pushed k (48 + m % 10))) (before (omega arith))
     ∙ grown_digit (m / 10) (m % 10) (omega arith) (omega arith)
     ∙ ap (λ k. Some k) (omega arith))
     n h h

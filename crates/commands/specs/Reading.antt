@@ -2,17 +2,13 @@
 -- Hexadecimals.
 use Rattle.std.specs.Prelude.{ℕ, ◌%◌, Bool, true, false, cond, not, ◌&&◌, ◌||◌, List, [], ◌∷◌, length, Some, None, codes, Option, ◌==◌, nat_le, nat_lt}
 use Rattle.std.specs.Borrow.{Bor}
-use Rattle.std.specs.Option.{option_map}
+use Rattle.std.specs.List.{list_all}
+use Rattle.std.specs.Option.{option_map, option_and_then}
 use Rattle.std.specs.Str.{bytes_eq}
 use Rattle.texts.specs.Decimals.{pushed}
 use Rattle.commands.specs.declared.command.Word.{Word}
 use Rattle.commands.specs.declared.command.Word.TheVariants as words
 use Rattle.commands.specs.Grammar.{Line, add, remove, holds, under, count, write, pick, join, receive}
-
--- what is read next, if anything was read
-abbrev pub onto : {A B : Type 0} → (A → Option B) → Option A → Option B
-onto f None = None
-onto f (Some x) = f x
 
 -- borrowed parts of a text, as they read
 abbrev pub texts : Bor (List ℕ) × Bor (List ℕ) → List ℕ × List ℕ
@@ -34,7 +30,7 @@ field_of (b ∷ bs) = cond (b == 32) (Some ([], bs)) (longer b (field_of bs))
 -- the number that digits write after n
 abbrev pub number_after : ℕ → List ℕ → Option ℕ
 number_after n [] = Some n
-number_after n (b ∷ bs) = onto (λ m. number_after m bs) (pushed n b)
+number_after n (b ∷ bs) = option_and_then (λ m. number_after m bs) (pushed n b)
 
 -- some digits, with no zero that leads others
 abbrev pub plain : List ℕ → Bool
@@ -52,19 +48,18 @@ narrow n = cond (nat_lt 4294967295 n) None (Some n)
 
 -- a number of 32 bits in decimal
 abbrev pub narrow_of : List ℕ → Option ℕ
-narrow_of bs = onto narrow (number_of bs)
+narrow_of bs = option_and_then narrow (number_of bs)
 
 -- a number of 32 bits, then what remains
 abbrev pub listed : List ℕ → Option (ℕ × List ℕ)
-listed bs = onto (λ p. option_map (λ n. (n, p.1)) (narrow_of p.0)) (field_of bs)
+listed bs = option_and_then (λ p. option_map (λ n. (n, p.1)) (narrow_of p.0)) (field_of bs)
 
 -- hexadecimal text: digits alone, an even number of them
 abbrev pub is_digit : ℕ → Bool
 is_digit b = (nat_le 48 b && nat_le b 57) || (nat_le 97 b && nat_le b 102)
 
 abbrev pub all_digits : List ℕ → Bool
-all_digits [] = true
-all_digits (b ∷ bs) = is_digit b && all_digits bs
+all_digits bs = list_all is_digit bs
 
 abbrev pub is_text : List ℕ → Bool
 is_text bs = all_digits bs && length bs % 2 == 0
@@ -90,10 +85,10 @@ fields_of bs words.Holds = option_map (λ q. holds q.0 q.1) (listed bs)
 fields_of bs words.Under = option_map (λ q. under q.0 q.1) (listed bs)
 fields_of bs words.Count = option_map count (narrow_of bs)
 fields_of bs words.Write = option_map write (narrow_of bs)
-fields_of bs words.Pick = onto (λ q. option_map (pick q.0) (number_of q.1)) (listed bs)
-fields_of bs words.Join = onto (λ q. onto (λ p. option_map (join q.0 p.0) (narrow_of p.1)) (listed q.1)) (listed bs)
+fields_of bs words.Pick = option_and_then (λ q. option_map (pick q.0) (number_of q.1)) (listed bs)
+fields_of bs words.Join = option_and_then (λ q. option_and_then (λ p. option_map (join q.0 p.0) (narrow_of p.1)) (listed q.1)) (listed bs)
 fields_of bs words.Receive = cond (is_text bs) (Some (receive bs)) None
 
 -- what a line says, however long it is
 abbrev pub line_of : List ℕ → Option Line
-line_of bs = onto (λ p. onto (fields_of p.1) (word_of p.0)) (field_of bs)
+line_of bs = option_and_then (λ p. option_and_then (fields_of p.1) (word_of p.0)) (field_of bs)

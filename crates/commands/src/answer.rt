@@ -1,4 +1,6 @@
 // The text of an answer: one line, its line feed included. An output that is too short is left as it was.
+//
+// It is no `Display`: a code's text may be any bytes, and the output is lent.
 ghost use Rattle.commands.specs.Answers.{answer_text, ended, refused_text};
 ghost use Rattle.commands.specs.Hexadecimals.{hexadecimal};
 ghost use Rattle.texts.specs.Texts.{WrittenTo};

@@ -39,7 +39,7 @@ enum Word {
     Receive,
 }
 
-// The word that stands there.
+// The word that stands there, by tests: of a match on byte strings only the lengths are told.
 fn read_word(word: &[u8]) -> Option<Word>
     ensures { result ≡ word_of word.now }
 {

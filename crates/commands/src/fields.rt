@@ -1,5 +1,5 @@
 // The fields of a line: words, and numbers in decimal. Each function goes over its bytes once.
-ghost use Rattle.std.specs.Prelude.{◌≡◌, Decides};
+ghost use Rattle.std.specs.Prelude.{◌≡◌, ◌==◌, position, Decides};
 ghost use Rattle.std.specs.Option.{option_map};
 ghost use Rattle.std.specs.Str.{bytes_eq};
 ghost use Rattle.commands.specs.Reading.{field_of, texts, plain, number_of, narrow_of, listed, listed_text};
@@ -14,16 +14,19 @@ pub fn is_word(word: &[u8], name: &[u8]) -> bool
     word == name
 }
 
+// The place of the first space.
+fn find_space(text: &[u8]) -> Option<usize>
+    ensures { result ≡ position (λ b. b == 32) text.now }
+{
+    text.iter().position(|b| *b == b' ')
+}
+
 // What stands before the first space, and what stands after it.
 pub fn split_field<'a>(text: &'a [u8]) -> Option<(&'a [u8], &'a [u8])>
     ensures { option_map texts result ≡ field_of text.now }
 {
-    for (i, b) in text.iter().enumerate() {
-        if *b == b' ' {
-            return Some((&text[0..i], &text[i + 1..]));
-        }
-    }
-    None
+    let end = find_space(text)?;
+    Some((&text[..end], &text[end + 1..]))
 }
 
 // Whether there is a first digit, and no zero that leads others.

@@ -4,7 +4,7 @@ ghost use Rattle.std.specs.Prelude.{◌≡◌, ℕ, ◌/◌, ◌%◌, ◌<◌, t
 ghost use Rattle.commands.specs.Hexadecimals.{digit, hexadecimal, Writes};
 ghost use Rattle.texts.specs.Texts.{WrittenTo};
 ghost use Rattle.commands.specs.Outputs.{Decodes};
-ghost use Rattle.commands.specs.Reading.{is_digit, is_text};
+ghost use Rattle.commands.specs.Reading.{is_digit, all_digits, is_text};
 
 use symbols::ShortOutput;
 
@@ -25,16 +25,18 @@ fn is_digit(b: u8) -> bool
     }
 }
 
+// Whether a text is digits alone.
+fn has_only_digits(text: &[u8]) -> bool
+    ensures { result ≡ all_digits text.now }
+{
+    text.iter().all(|b| is_digit(*b))
+}
+
 // Whether a text writes bytes: an even number of digits.
 pub(crate) fn is_hex(text: &[u8]) -> bool
     ensures { result ≡ is_text text.now }
 {
-    for b in text {
-        if !is_digit(*b) {
-            return false;
-        }
-    }
-    text.len() % 2 == 0
+    has_only_digits(text) && text.len() % 2 == 0
 }
 
 // The number that a digit stands for.
@@ -73,6 +75,7 @@ pub fn decode_hex(hex: &[u8], out: &mut [u8]) -> Result<usize, HexFault>
     if out.len() < count {
         return Err(HexFault::OutputTooShort);
     }
+    // By index: it reads two places and writes one.
     for i in 0..count {
         out[i] = read_pair(hex[2 * i], hex[2 * i + 1]);
     }
@@ -86,6 +89,7 @@ pub fn encode_hex(bytes: &[u8], out: &mut [u8]) -> Result<usize, ShortOutput>
     if out.len() / 2 < bytes.len() {
         return Err(ShortOutput);
     }
+    // By index: it writes two places for each byte.
     for (i, b) in bytes.iter().enumerate() {
         out[2 * i] = write_digit(*b / 16);
         out[2 * i + 1] = write_digit(*b % 16);

@@ -12,7 +12,7 @@ pub enum Kind {
     Steps,
 }
 
-// The kind that a line names: exactly LETTERS or STEPS.
+// The kind that a line names: exactly LETTERS or STEPS. A function: there is nothing to tell of a line that names none.
 pub fn read_kind(line: &[u8]) -> Option<Kind>
     ensures answer { (k : Kind) → (result ≡ Some k) ↔ (kind_text k ≡ line.now) }
 {

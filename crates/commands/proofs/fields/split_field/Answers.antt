@@ -1,9 +1,11 @@
-use Rattle.std.proofs.Common.{sym, ◌∙◌, arith}
-use Rattle.commands.proofs.Texts.{field_none, field_at, cut}
+use Rattle.std.proofs.Common.{sym, ap, ◌∙◌}
+use Rattle.std.specs.Option.{option_map}
+use Rattle.commands.specs.Reading.{texts}
+use Rattle.commands.proofs.Texts.{field_by_space, cut}
 use Rattle.commands.proofs.fields.split_field.Goals as goal
 
-pub returns-then-b-eq32 : goal.returns-then-b-eq32
-returns-then-b-eq32 c = cut c.args.text.now c.loop-i.i ∙ sym (field_at c.args.text.now c.loop-i.i (omega arith) c.loop-i.invariant c.if-b-eq32.true)
+pub returns-in_err-end : goal.returns-in_err-end
+returns-in_err-end c = ap (option_map texts) c.from_residual.ensures ∙ sym (field_by_space c.args.text.now _ c.in_err-end.ensures)
 
 pub returns : goal.returns
-returns c = sym (field_none c.args.text.now (λ k l. c.loop-i.invariant k (omega arith)))
+returns c = cut c.args.text.now c.in_ok-end.end ∙ sym (field_by_space c.args.text.now _ c.in_ok-end.ensures)

@@ -1,6 +1,0 @@
-use Rattle.std.proofs.Common.{◌≡◌, drop}
-use Rattle.commands.specs.Reading.{all_digits}
-use Rattle.commands.proofs.hex.is_hex.Given as goal
-
-abbrev pub invariant-loop-b : goal.invariant-loop-b
-invariant-loop-b l = all_digits l.text ≡ all_digits (drop l.b-index l.text)
