@@ -1,16 +1,6 @@
 use Rattle.std.proofs.Common.{arith}
-use Rattle.writing.proofs.Turning.{in_stack, last_good, last_unmet, deeper, link_turns, link_leads, has_place, vertex_turns, vertex_leads}
+use Rattle.writing.proofs.Turning.{last_good, last_unmet, deeper, link_turns, link_leads, has_place, vertex_turns, vertex_leads}
 use Rattle.writing.proofs.walk.turn.Goals as goal
-
-pub last_waiting-requires : goal.last_waiting-requires
-last_waiting-requires g c = in_stack c.args.seen.now c.args.stack.now c.args.course c.requires.room c.requires.walking
-
-pub next_link-requires : goal.next_link-requires
-next_link-requires g c =
-    record {
-      vertex = last_good c.args.seen.now c.args.stack.now c.args.course c.requires.room c.requires.walking c.in_ok-last.ensures.0 c.in_ok-last.last c.in_ok-last.ensures.1;
-      size = c.requires.size;
-    }
 
 pub push-requires : goal.push-requires
 push-requires g c =
