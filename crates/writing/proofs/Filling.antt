@@ -1,5 +1,5 @@
 -- Records written one after another.
-use Rattle.std.proofs.Common.{◌≡◌, ℕ, zero, suc, ◌+◌, ◌-◌, ◌*◌, ◌<◌, ◌≤◌, List, [], ◌∷◌, ◌++◌, length, take, drop, sym, refl, ap, ◌∙◌, subst, ap₂, append_assoc, append-nil, mul-le-mul_right, suc-mul, zero-mul, arith, length-append, take-append-drop, length-take-le, drop-drop, take_at, drop_at}
+use Rattle.std.proofs.Common.{◌≡◌, ℕ, zero, suc, ◌+◌, ◌-◌, ◌*◌, ◌<◌, ◌≤◌, List, [], ◌∷◌, ◌++◌, length, take, drop, sym, refl, ap, ◌∙◌, subst, ap₂, append_assoc, append-nil, mul-le-mul_right, suc-mul, zero-mul, arith, length-append, length-take-le, drop-drop, take_at, drop_at}
 use borrow.Rule.Slice.PartMut.{put_mid}
 use Rattle.std.proofs.lemmas.List.{drop_all}
 use Rattle.memory.specs.declared.work.Place.{Place}
@@ -65,11 +65,6 @@ module _ {S : Type 0} (bytes : S → List ℕ) where
       pub drawn_long : (k : ℕ) (ws : List (Vertex S)) → Drawn vs ps met k ws → length ws ≡ k
       drawn_long zero ws e = ap length e
       drawn_long (suc k) ws d = ap length d.4 ∙ length_snoc d.0 d.1 ∙ ap suc (drawn_long k d.0 d.2)
-
-      pub filled_none : (out : List ℕ) → Filled vs ps met 0 width bytes out out
-      filled_none out =
-          let e : start_of width 0 ≡ 14 = ap (λ n. 14 + n) (zero-mul (width + 8)) in
-          ([], refl, sym (take-append-drop 14 out) ∙ ap (λ n. take 14 out ++ drop n out) (sym e))
 
       pub filled_more : (k : ℕ) (out mid after : List ℕ) → 14 ≤ length out → Filled vs ps met k width bytes out mid →
           drop (start_of width (k + 1)) mid ≡ drop (start_of width (k + 1)) out →
