@@ -1,5 +1,5 @@
 -- One turn of a walk.
-use Rattle.std.proofs.Common.{◌≡◌, ℕ, suc, ◌+◌, ◌-◌, ◌<◌, ◌≤◌, Bool, List, ◌∷◌, map, length, set, Some, None, sym, ap, ◌∙◌, subst, arith}
+use Rattle.std.proofs.Common.{◌≡◌, ℕ, suc, ◌+◌, ◌-◌, ◌<◌, ◌≤◌, ◌≢◌, Bool, List, ◌∷◌, map, length, set, Some, None, sym, ap, ◌∙◌, subst, arith}
 use mathlib.Core.Path.{subst⁻¹}
 use Rattle.symbols.specs.Order.{Order}
 use Rattle.memory.specs.declared.work.Place.{Place}
@@ -7,20 +7,20 @@ use Rattle.ledger.specs.declared.Vertex.{Vertex}
 use Rattle.ledger.specs.Diagrams.{Sound}
 use Rattle.ledger.specs.Ledger.{codes}
 use Rattle.writing.specs.Met.{list_at, met_numbers, Sparse, Unmet, with_met}
-use Rattle.writing.specs.Walks.{waiting_place, waiting, Stacked, Walking, NextLink, first_of, Turns, TurnsTo, laying_all}
+use Rattle.writing.specs.Walks.{waiting_place, waiting, Stacked, Walking, NextBelow, NextLink, first_of, Turns, TurnsTo, laying_all}
 use Rattle.writing.specs.declared.walk.Course.{Course}
 use Rattle.writing.proofs.Meeting.{met_long, sparse_more, numbers_more, room}
 use Rattle.writing.proofs.Stacking.{length_waiting, waiting_last, waiting_push, stacked_push, stacked_few, stacked_pop, less_push, less_meet, first_small}
 use Rattle.writing.proofs.Unwinding.{link_first, vertex_last}
 
-module _ (seen stack : List Place) (c : Course) (fits : length seen ≤ length stack) (w : Walking seen stack c) (some : c.depth ≡ 0 → ⊥)
-    (last : ℕ) (is_last : last ≡ list_at stack (c.depth - 1)) where
+module _ (seen stack : List Place) (c : Course) (fits : length seen ≤ length stack) (w : Walking seen stack c)
+    (last : ℕ) (waits : (c.depth ≢ 0) × (last ≡ list_at stack (c.depth - 1))) where
   -- the others that wait
   abbrev others : List ℕ
   others = waiting stack (c.depth - 1)
 
   there : waiting stack c.depth ≡ last ∷ others
-  there = waiting_last stack c.depth (omega arith) ∙ ap (λ n. n ∷ others) (sym is_last)
+  there = waiting_last stack c.depth (omega (arith, waits.0)) ∙ ap (λ n. n ∷ others) (sym waits.1)
 
   stacked : Stacked seen c.met (last ∷ others)
   stacked = subst (Stacked seen c.met) there w.2
@@ -28,9 +28,9 @@ module _ (seen stack : List Place) (c : Course) (fits : length seen ≤ length s
   pub last_good : (2 ≤ last) × (last ≤ length seen + 1)
   last_good = (stacked.0, let h = stacked.1 in omega arith)
 
-  module _ (link : ℕ) (below : link < last) (low : 2 ≤ link) (new : Unmet seen c.met link) where
+  module _ (link : ℕ) (below : NextBelow seen c.met last (Some link)) where
     pushed : Stacked seen c.met (link ∷ last ∷ others)
-    pushed = stacked_push seen c.met link last others below low new stacked
+    pushed = stacked_push seen c.met link last others below.0 below.1 below.2 stacked
 
     pub deeper : c.depth < length seen
     deeper = let h = stacked_few seen c.met link (last ∷ others) pushed in omega (arith, length_waiting stack (c.depth - 1))
