@@ -1,17 +1,13 @@
-use Rattle.std.proofs.Common.{◌≡◌, ◌+◌, ◌*◌, drop, sym, refl, ◌∙◌, subst}
+use Rattle.std.proofs.Common.{◌≡◌, ◌+◌, ◌*◌, drop, sym, ◌∙◌, subst}
 use Rattle.writing.proofs.Whole.{head_kept, too_short, whole_written}
 use Rattle.writing.proofs.write.Goals as goal
 
-pub returns-then-out-whole : goal.returns-then-out-whole
-returns-then-out-whole g c =
+pub returns-then-out-whole-clause-answer : goal.returns-then-out-whole-clause-answer
+returns-then-out-whole-clause-answer g c = λ sound.
     let seen = c.walk-seen.result in
-    record {
-      kept = refl;
-      answer = λ sound.
-          too_short g.S.Symbol.before g.met.S.Symbol.ordered g.S.WireSymbol.travel g.met.S.WireSymbol.wired.long
-          (g.B.Shelf.vertices c.args.shelf.now) sound seen.places.now seen.met seen.sparse c.walk-seen.ensures.size c.args.list c.requires.good (c.walk-seen.ensures.value sound)
-          c.record_length.result c.args.out.now _ c.record_length.ensures c.if-out-whole.true;
-    }
+    too_short g.S.Symbol.before g.met.S.Symbol.ordered g.S.WireSymbol.travel g.met.S.WireSymbol.wired.long
+    (g.B.Shelf.vertices c.args.shelf.now) sound seen.places.now seen.met seen.sparse c.walk-seen.ensures.size c.args.list c.requires.good (c.walk-seen.ensures.value sound)
+    c.record_length.result c.args.out.now _ c.record_length.ensures c.if-out-whole.true
 
 pub returns : goal.returns
 returns g c =

@@ -1,5 +1,5 @@
 use Rattle.std.proofs.Common.{arith}
-use Rattle.writing.proofs.Turning.{last_good, last_unmet, deeper, link_turns, link_leads, has_place, vertex_turns, vertex_leads}
+use Rattle.writing.proofs.Turning.{last_unmet, deeper, link_turns, link_leads, has_place, vertex_turns, vertex_leads}
 use Rattle.writing.proofs.walk.turn.Goals as goal
 
 pub push-requires : goal.push-requires
@@ -13,12 +13,8 @@ overflow_add-result g c =
     let few = g.B.Shelf.bounds c.args.shelf.now in
     omega (arith, c.requires.size, few.0, few.1)
 
-pub meet-requires : goal.meet-requires
-meet-requires g c =
-    record {
-      few = has_place c.args.seen.now c.args.stack.now c.args.course c.requires.room c.requires.walking c.in_ok-last.last c.in_ok-last.ensures;
-      vertex = last_good c.args.seen.now c.args.stack.now c.args.course c.requires.room c.requires.walking c.in_ok-last.last c.in_ok-last.ensures;
-    }
+pub meet-requires-clause-few : goal.meet-requires-clause-few
+meet-requires-clause-few g c = has_place c.args.seen.now c.args.stack.now c.args.course c.requires.room c.requires.walking c.in_ok-last.last c.in_ok-last.ensures
 
 pub returns-in-Some : goal.returns-in-Some
 returns-in-Some g c =
