@@ -1,5 +1,5 @@
 -- Records written one after another.
-use Rattle.std.proofs.Common.{◌≡◌, ℕ, zero, suc, ◌+◌, ◌-◌, ◌*◌, ◌<◌, ◌≤◌, List, [], ◌∷◌, ◌++◌, length, take, drop, sym, refl, ap, ◌∙◌, subst, ap₂, append_assoc, append-nil, mul-le-mul_right, suc-mul, zero-mul, arith, length-append, take-append-drop, length-take-le, drop-drop, take_at, drop_at}
+use Rattle.std.proofs.Common.{◌≡◌, ℕ, zero, suc, ◌+◌, ◌-◌, ◌*◌, ◌<◌, ◌≤◌, List, [], ◌∷◌, ◌++◌, length, take, drop, sym, refl, ap, ◌∙◌, subst, ap₂, append_assoc, append-nil, mul-le-mul_right, suc-mul, zero-mul, arith, length-append, length-take-le, drop-drop, take_at, drop_at}
 use borrow.Rule.Slice.PartMut.{put_mid}
 use Rattle.std.proofs.lemmas.List.{drop_all}
 use Rattle.memory.specs.declared.work.Place.{Place}
@@ -18,11 +18,15 @@ record_within size k met room h l =
     let most : suc k * size ≤ met * size = (let s : suc k ≤ met = omega arith in mul-le-mul_right size s) in
     omega (arith, suc-mul k size)
 
--- what is behind stays behind
-pub drop_later : (a b : ℕ) (xs ys : List ℕ) → a ≤ b → drop a xs ≡ drop a ys → drop b xs ≡ drop b ys
-drop_later a b xs ys h e =
-    let s : a + (b - a) ≡ b = omega arith in
-    ap (λ n. drop n xs) (sym s) ∙ sym (drop-drop (b - a) a xs) ∙ ap (drop (b - a)) e ∙ drop-drop (b - a) a ys ∙ ap (λ n. drop n ys) s
+-- what stays behind record k stays behind the next
+still_behind : (w k : ℕ) (out mid : List ℕ) → drop (start_of w k) mid ≡ drop (start_of w k) out → drop (start_of w (k + 1)) mid ≡ drop (start_of w (k + 1)) out
+still_behind w k out mid e =
+    let next : start_of w (k + 1) ≡ start_of w k + (w + 8) = next_start w k in
+    ap (λ n. drop n mid) next ∙ sym (drop-drop (w + 8) (start_of w k) mid) ∙ ap (drop (w + 8)) e ∙ drop-drop (w + 8) (start_of w k) out ∙ ap (λ n. drop n out) (sym next)
+
+pub kept_more : (w k : ℕ) (out mid after : List ℕ) → drop (start_of w k) mid ≡ drop (start_of w k) out → drop (start_of w (k + 1)) after ≡ drop (start_of w (k + 1)) mid →
+    drop (start_of w (k + 1)) after ≡ drop (start_of w (k + 1)) out
+kept_more w k out mid after behind kept = kept ∙ still_behind w k out mid behind
 
 -- a part of the size of a record is a record then
 pub put_record : (k size width : ℕ) (out ys part rec : List ℕ) → size ≡ width + 8 → length part ≤ width + 8 → ys ≡ rec ++ drop (width + 8) part →
@@ -66,14 +70,8 @@ module _ {S : Type 0} (bytes : S → List ℕ) where
       drawn_long zero ws e = ap length e
       drawn_long (suc k) ws d = ap length d.4 ∙ length_snoc d.0 d.1 ∙ ap suc (drawn_long k d.0 d.2)
 
-      pub filled_none : (out : List ℕ) → Filled vs ps met 0 width bytes out out
-      filled_none out =
-          let e : start_of width 0 ≡ 14 = ap (λ n. 14 + n) (zero-mul (width + 8)) in
-          ([], refl, sym (take-append-drop 14 out) ∙ ap (λ n. take 14 out ++ drop n out) (sym e))
-
       pub filled_more : (k : ℕ) (out mid after : List ℕ) → 14 ≤ length out → Filled vs ps met k width bytes out mid →
-          drop (start_of width (k + 1)) mid ≡ drop (start_of width (k + 1)) out →
-          PutAt vs ps met k width bytes mid after → Filled vs ps met (k + 1) width bytes out after
+          drop (start_of width k) mid ≡ drop (start_of width k) out → PutAt vs ps met k width bytes mid after → Filled vs ps met (k + 1) width bytes out after
       filled_more k out mid after some f behind p =
           let up : suc k ≡ k + 1 = omega arith in
           let ws = f.0 in
@@ -88,7 +86,7 @@ module _ {S : Type 0} (bytes : S → List ℕ) where
             ws ++ w ∷ [],
             (ws, w, f.1, p.1, refl),
             p.2 ∙
-                ap₂ (λ a b. a ++ (record_bytes bytes w ++ b)) kept (behind ∙ ap (λ j. drop (start_of width j) out) (sym up)) ∙
+                ap₂ (λ a b. a ++ (record_bytes bytes w ++ b)) kept (still_behind width k out mid behind ∙ ap (λ j. drop (start_of width j) out) (sym up)) ∙
                 append_assoc (take 14 out) (records bytes ws) (record_bytes bytes w ++ drop (start_of width (suc k)) out) ∙
                 ap (λ r. take 14 out ++ r)
                 (sym (append_assoc (records bytes ws) (record_bytes bytes w) (drop (start_of width (suc k)) out)) ∙

@@ -1,36 +1,26 @@
 -- One turn of a walk.
-use Rattle.std.proofs.Common.{◌≡◌, ℕ, suc, ◌+◌, ◌-◌, ◌<◌, ◌≤◌, Bool, List, [], ◌∷◌, map, length, set, Some, None, sym, refl, ap, ◌∙◌, subst, arith}
+use Rattle.std.proofs.Common.{◌≡◌, ℕ, suc, ◌+◌, ◌-◌, ◌<◌, ◌≤◌, ◌≢◌, Bool, List, ◌∷◌, map, length, set, Some, None, sym, ap, ◌∙◌, subst, arith}
 use mathlib.Core.Path.{subst⁻¹}
 use Rattle.symbols.specs.Order.{Order}
 use Rattle.memory.specs.declared.work.Place.{Place}
 use Rattle.ledger.specs.declared.Vertex.{Vertex}
 use Rattle.ledger.specs.Diagrams.{Sound}
-use Rattle.ledger.specs.Ledger.{lay, codes}
+use Rattle.ledger.specs.Ledger.{codes}
 use Rattle.writing.specs.Met.{list_at, met_numbers, Sparse, Unmet, with_met}
-use Rattle.writing.specs.Walks.{waiting_place, waiting, Stacked, Walking, NextLink, first_of, Turns, TurnsTo, laying_all, target, starting, Starts}
+use Rattle.writing.specs.Walks.{waiting_place, waiting, Stacked, Walking, NextBelow, NextLink, first_of, Turns, TurnsTo, laying_all}
 use Rattle.writing.specs.declared.walk.Course.{Course}
 use Rattle.writing.proofs.Meeting.{met_long, sparse_more, numbers_more, room}
-use Rattle.writing.proofs.Stacking.{length_waiting, waiting_last, waiting_push, stacked_push, stacked_few, stacked_pop, less_push, less_meet, first_small, stacked_start}
-use Rattle.writing.proofs.Unwinding.{link_first, vertex_last, starts_all}
+use Rattle.writing.proofs.Stacking.{length_waiting, waiting_last, waiting_push, stacked_push, stacked_few, stacked_pop, less_push, less_meet, first_small}
+use Rattle.writing.proofs.Unwinding.{link_first, vertex_last}
 
--- what waits lies on the stack
-pub in_stack : (seen stack : List Place) (c : Course) → length seen ≤ length stack → Walking seen stack c → c.depth ≤ length stack
-in_stack seen stack c fits w = by (waiting stack c.depth) refl
-  where
-    by : (ns : List ℕ) → waiting stack c.depth ≡ ns → c.depth ≤ length stack
-    by [] e = omega (arith, length_waiting stack c.depth, ap length e)
-    by (n ∷ ns) e =
-        let few = stacked_few seen c.met n ns (subst (Stacked seen c.met) e w.2) in
-        omega (arith, length_waiting stack c.depth, ap length e)
-
-module _ (seen stack : List Place) (c : Course) (fits : length seen ≤ length stack) (w : Walking seen stack c) (some : c.depth ≡ 0 → ⊥)
-    (last : ℕ) (is_last : last ≡ list_at stack (c.depth - 1)) where
+module _ (seen stack : List Place) (c : Course) (fits : length seen ≤ length stack) (w : Walking seen stack c)
+    (last : ℕ) (waits : (c.depth ≢ 0) × (last ≡ list_at stack (c.depth - 1))) where
   -- the others that wait
   abbrev others : List ℕ
   others = waiting stack (c.depth - 1)
 
   there : waiting stack c.depth ≡ last ∷ others
-  there = waiting_last stack c.depth (omega arith) ∙ ap (λ n. n ∷ others) (sym is_last)
+  there = waiting_last stack c.depth (omega (arith, waits.0)) ∙ ap (λ n. n ∷ others) (sym waits.1)
 
   stacked : Stacked seen c.met (last ∷ others)
   stacked = subst (Stacked seen c.met) there w.2
@@ -38,9 +28,9 @@ module _ (seen stack : List Place) (c : Course) (fits : length seen ≤ length s
   pub last_good : (2 ≤ last) × (last ≤ length seen + 1)
   last_good = (stacked.0, let h = stacked.1 in omega arith)
 
-  module _ (link : ℕ) (below : link < last) (low : 2 ≤ link) (new : Unmet seen c.met link) where
+  module _ (link : ℕ) (below : NextBelow seen c.met last (Some link)) where
     pushed : Stacked seen c.met (link ∷ last ∷ others)
-    pushed = stacked_push seen c.met link last others below low new stacked
+    pushed = stacked_push seen c.met link last others below.0 below.1 below.2 stacked
 
     pub deeper : c.depth < length seen
     deeper = let h = stacked_few seen c.met link (last ∷ others) pushed in omega (arith, length_waiting stack (c.depth - 1))
@@ -104,24 +94,3 @@ module _ (seen stack : List Place) (c : Course) (fits : length seen ≤ length s
         ap (λ ns. laying_all before vs others (map (codes vs) ns)) numbers ∙
         ap (laying_all before vs others) (vertex_last before order vs sound seen c.met w.1 size last next.0 next.1 stacked.2 next.2 next.3) ∙
         ap (λ ns. laying_all before vs ns row) (sym there)
-
--- the start of a walk, and its end
-module _ (seen st : List Place) (c : Course) (list : ℕ) (starts : Starts list c st) where
-  pub start_walks : list ≤ length seen + 1 → Walking seen st c
-  start_walks good =
-      let none = starts.0 in (
-        omega arith,
-        λ k h. absurd (omega arith),
-        subst⁻¹ (Stacked seen c.met) starts.1 (subst⁻¹ (λ m. Stacked seen m (starting list)) none (stacked_start seen list good)),
-      )
-
-  pub start_leads : {S : Type 0} (before : S → S → Bool) (vs : List (Vertex S)) → target before vs seen st c ≡ lay before [] (codes vs list)
-  start_leads before vs =
-      ap (λ ns. laying_all before vs ns (map (codes vs) (met_numbers seen c.met))) starts.1 ∙
-      ap (λ m. laying_all before vs (starting list) (map (codes vs) (met_numbers seen m))) starts.0 ∙
-      starts_all before vs list
-
-pub end_leads : {S : Type 0} (before : S → S → Bool) (vs : List (Vertex S)) (seen now_seen st : List Place) (c : Course) → c.depth ≡ 0 → now_seen ≡ seen →
-    map (codes vs) (met_numbers now_seen c.met) ≡ target before vs seen st c
-end_leads before vs seen now_seen st c none same =
-    ap (λ s. map (codes vs) (met_numbers s c.met)) same ∙ ap (λ d. laying_all before vs (waiting st d) (map (codes vs) (met_numbers seen c.met))) (sym none)

@@ -1,31 +1,31 @@
 -- The walk is laying down: a list whose parts are laid down first is laid down all the same.
-use Rattle.std.proofs.Common.{◌≡◌, ℕ, zero, suc, ◌<◌, ◌≤◌, Bool, true, false, ◌⊎◌, List, [], ◌∷◌, ◌++◌, map, length, get_or, Some, None, sym, refl, ap, ◌∙◌, subst, inl, inr, arith}
+use Rattle.std.proofs.Common.{◌≡◌, ℕ, zero, suc, ◌<◌, Bool, true, false, ◌⊎◌, List, [], ◌∷◌, ◌++◌, map, length, get_or, Some, sym, refl, ap, ◌∙◌, subst, inl, inr, arith}
 use mathlib.Core.Path.{subst⁻¹}
 use mathlib.Core.List.{map-append}
 use native.Mathlib.Decide.{ℕ_discrete}
 use lib.ListN.{length-map, get_or-map}
 use Rattle.symbols.specs.Order.{Order}
 use Rattle.memory.specs.declared.work.Place.{Place}
+use Rattle.memory.proofs.Looks.{looked}
 use Rattle.ledger.specs.declared.Vertex.{Vertex}
 use Rattle.ledger.specs.Lists.{Codes, none, begun}
-use Rattle.ledger.specs.Diagrams.{look, Good, Sound}
+use Rattle.std.specs.Option.{option_map}
+use Rattle.ledger.specs.Diagrams.{look, parts, Good, Sound}
 use Rattle.ledger.specs.Ledger.{listed, position, number, lay, lists, codes}
-use Rattle.ledger.proofs.Reading.{true_false, none_some}
-use Rattle.ledger.proofs.Canon.{Kind, is_0, is_1, is_vertex, kind, vertex_good}
+use Rattle.ledger.proofs.Reading.{true_false}
+use Rattle.ledger.proofs.Canon.{vertex_good}
 use Rattle.ledger.proofs.Ends.{get_or_front, get_or_last, length_snoc}
 use Rattle.ledger.proofs.Rows.{both_ways, Known, known_held, listed_front, listed_get_or, position_below, get_or_position, number_list, lay_known, lay_knows, lay_new, lay_adds, known_laid, still_new}
 use Rattle.ledger.proofs.Drawn.{Pictured, pictured}
 use Rattle.writing.specs.Met.{list_at, met_numbers, Sparse, Unmet}
 use Rattle.writing.specs.Walks.{Passed, laying_all, starting}
 
--- a good number from 2 on has a vertex
-pub has_vertex : {S : Type 0} (vs : List (Vertex S)) (n : ℕ) → Good vs n → 2 ≤ n → look vs n ≡ None → ⊥
-has_vertex vs n g low e = by (kind vs n g)
-  where
-    by : Kind vs n → ⊥
-    by (is_0 f) = omega arith
-    by (is_1 f) = omega arith
-    by (is_vertex v p) = none_some e p
+-- what is read of a number is its vertex
+pub read_is : {S : Type 0} (vs : List (Vertex S)) (n : ℕ) (label : S) (low high : ℕ) → Some (label, low, high) ≡ option_map parts (look vs n) →
+    look vs n ≡ Some (record { label = label; zero = low; one = high })
+read_is {S} vs n label low high e =
+    let l = looked vs n (label, low, high) e in
+    l.1 ∙ ap (λ (t : S × ℕ × ℕ). Some (record { label = t.0; zero = t.1; one = t.2 })) (sym l.2)
 
 module _ {S : Type 0} (before : S → S → Bool) (order : Order before) where
   module _ (row : List (Codes S)) (a : S) (z o : Codes S) (new : listed before row (begun a z o) ≡ false) where

@@ -1,5 +1,5 @@
 -- The whole dispatch.
-use Rattle.std.proofs.Common.{◌≡◌, ℕ, ◌+◌, ◌*◌, ◌<◌, ◌≤◌, Bool, List, [], ◌++◌, length, take, drop, Ok, Err, sym, refl, ap, ◌∙◌, ap₂, mul-le-mul, arith, drop-drop, take_at, drop_at}
+use Rattle.std.proofs.Common.{◌≡◌, ℕ, ◌+◌, ◌*◌, ◌<◌, Bool, List, [], ◌++◌, length, take, drop, Ok, Err, sym, refl, ap, ◌∙◌, ap₂, arith, drop-drop, take_at, drop_at}
 use Rattle.symbols.specs.Order.{Order}
 use Rattle.symbols.specs.Wire.{Travel}
 use Rattle.memory.specs.declared.work.Place.{Place}
@@ -19,12 +19,6 @@ use Rattle.symbols.specs.declared.ShortOutput.{ShortOutput}
 use Rattle.writing.proofs.Unwinding.{met_lists}
 use Rattle.writing.proofs.Filling.{length_records}
 use Rattle.writing.proofs.Drawing.{fresh_many, fresh_root, fresh_drawn}
-
--- a dispatch's length fits four bytes
-pub whole_fits : (met size : ℕ) → met ≤ 1000000 → size ≤ 16 → 14 + met * size ≤ 16000014
-whole_fits met size h l =
-    let most : met * size ≤ 1000000 * 16 = mul-le-mul h l in
-    omega arith
 
 -- what is behind the head stays
 pub head_kept : (n : ℕ) (head : Head) (out after : List ℕ) → after ≡ head_bytes head ++ drop 14 out → drop (14 + n) after ≡ drop (14 + n) out

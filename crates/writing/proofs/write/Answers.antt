@@ -1,29 +1,13 @@
-use Rattle.std.proofs.Common.{◌≡◌, ◌+◌, ◌*◌, ◌≤◌, length, drop, sym, refl, ◌∙◌, subst, arith}
-use Rattle.writing.proofs.Whole.{whole_fits, head_kept, too_short, whole_written}
+use Rattle.std.proofs.Common.{◌≡◌, ◌+◌, ◌*◌, drop, sym, ◌∙◌, subst}
+use Rattle.writing.proofs.Whole.{head_kept, too_short, whole_written}
 use Rattle.writing.proofs.write.Goals as goal
 
-pub returns-then-out-whole : goal.returns-then-out-whole
-returns-then-out-whole g c =
+pub returns-then-out-whole-clause-answer : goal.returns-then-out-whole-clause-answer
+returns-then-out-whole-clause-answer g c = λ sound.
     let seen = c.walk-seen.result in
-    record {
-      kept = refl;
-      answer = λ sound.
-          too_short g.S.Symbol.before g.met.S.Symbol.ordered g.S.WireSymbol.travel g.met.S.WireSymbol.wired.long
-          (g.B.Shelf.vertices c.args.shelf.now) sound seen.places.now seen.met seen.sparse c.walk-seen.ensures.size c.args.list c.requires.good (c.walk-seen.ensures.value sound)
-          c.record_length.result c.args.out.now _ c.record_length.ensures c.if-out-whole.true;
-    }
-
-pub overflow_cast-head : goal.overflow_cast-head
-overflow_cast-head g c =
-    let seen = c.walk-seen.result in
-    let met : seen.met ≤ 1000000 = omega (arith, seen.few, seen.short) in
-    let narrow : c.record_length.result ≤ 16 = omega (arith, g.met.S.WireSymbol.wired.few, c.record_length.ensures) in
-    omega (arith, whole_fits seen.met c.record_length.result met narrow)
-
-pub write_records-requires : goal.write_records-requires
-write_records-requires g c =
-    let room = subst (λ n. 14 + c.walk-seen.result.met * n ≤ length c.args.out.now) c.record_length.ensures c.if-out-whole.false in
-    omega arith
+    too_short g.S.Symbol.before g.met.S.Symbol.ordered g.S.WireSymbol.travel g.met.S.WireSymbol.wired.long
+    (g.B.Shelf.vertices c.args.shelf.now) sound seen.places.now seen.met seen.sparse c.walk-seen.ensures.size c.args.list c.requires.good (c.walk-seen.ensures.value sound)
+    c.record_length.result c.args.out.now _ c.record_length.ensures c.if-out-whole.true
 
 pub returns : goal.returns
 returns g c =

@@ -1,13 +1,7 @@
 use Rattle.std.proofs.Common.{◌+◌, ◌-◌, ◌*◌, ◌≤◌, length, take, drop, arith, length-take}
-use mathlib.Core.Path.{subst⁻¹}
 use Rattle.wire.specs.Records.{record_bytes}
 use Rattle.writing.proofs.Filling.{record_within, put_record, put_kept, length_record}
 use Rattle.writing.proofs.records.write_kth.Goals as goal
-
-pub slice_bounds-write_record-end : goal.slice_bounds-write_record-end
-slice_bounds-write_record-end g c =
-    record_within c.record_length-size.result c.args.k c.args.seen.now.met (length c.args.out.now) c.requires.here
-    (subst⁻¹ (λ n. 14 + c.args.seen.now.met * n ≤ length c.args.out.now) c.record_length-size.ensures c.requires.room)
 
 pub returns-in-Some : goal.returns-in-Some
 returns-in-Some g c =

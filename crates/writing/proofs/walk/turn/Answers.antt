@@ -1,49 +1,32 @@
 use Rattle.std.proofs.Common.{arith}
-use Rattle.writing.proofs.Turning.{in_stack, last_good, last_unmet, deeper, link_turns, link_leads, has_place, vertex_turns, vertex_leads}
+use Rattle.writing.proofs.Turning.{last_unmet, deeper, link_turns, link_leads, has_place, vertex_turns, vertex_leads}
 use Rattle.writing.proofs.walk.turn.Goals as goal
-
-pub last_waiting-requires : goal.last_waiting-requires
-last_waiting-requires g c = in_stack c.args.seen.now c.args.stack.now c.args.course c.requires.room c.requires.walking
-
-pub next_link-requires : goal.next_link-requires
-next_link-requires g c =
-    record {
-      vertex = last_good c.args.seen.now c.args.stack.now c.args.course c.requires.room c.requires.walking c.in_ok-last.ensures.0 c.in_ok-last.last c.in_ok-last.ensures.1;
-      size = c.requires.size;
-    }
 
 pub push-requires : goal.push-requires
 push-requires g c =
-    let low = c.in-Some.ensures.below in
-    let h = deeper c.args.seen.now c.args.stack.now c.args.course c.requires.room c.requires.walking c.in_ok-last.ensures.0 c.in_ok-last.last c.in_ok-last.ensures.1 c.in-Some.link low.0 low.1 low.2 in
+    let h = deeper c.args.seen.now c.args.stack.now c.args.course c.requires.room c.requires.walking c.in_ok-last.last c.in_ok-last.ensures c.in-Some.link c.in-Some.ensures.below in
     omega (arith, c.requires.room)
 
 pub overflow_add-result : goal.overflow_add-result
 overflow_add-result g c =
-    let low = c.in-Some.ensures.below in
-    let h = deeper c.args.seen.now c.args.stack.now c.args.course c.requires.room c.requires.walking c.in_ok-last.ensures.0 c.in_ok-last.last c.in_ok-last.ensures.1 c.in-Some.link low.0 low.1 low.2 in
+    let h = deeper c.args.seen.now c.args.stack.now c.args.course c.requires.room c.requires.walking c.in_ok-last.last c.in_ok-last.ensures c.in-Some.link c.in-Some.ensures.below in
     let few = g.B.Shelf.bounds c.args.shelf.now in
     omega (arith, c.requires.size, few.0, few.1)
 
-pub meet-requires : goal.meet-requires
-meet-requires g c =
-    record {
-      few = has_place c.args.seen.now c.args.stack.now c.args.course c.requires.room c.requires.walking c.in_ok-last.ensures.0 c.in_ok-last.last c.in_ok-last.ensures.1;
-      vertex = last_good c.args.seen.now c.args.stack.now c.args.course c.requires.room c.requires.walking c.in_ok-last.ensures.0 c.in_ok-last.last c.in_ok-last.ensures.1;
-    }
+pub meet-requires-clause-few : goal.meet-requires-clause-few
+meet-requires-clause-few g c = has_place c.args.seen.now c.args.stack.now c.args.course c.requires.room c.requires.walking c.in_ok-last.last c.in_ok-last.ensures
 
 pub returns-in-Some : goal.returns-in-Some
 returns-in-Some g c =
-    let low = c.in-Some.ensures.below in
     record {
       walking =
-          link_turns c.args.seen.now c.args.stack.now c.args.course c.requires.room c.requires.walking c.in_ok-last.ensures.0 c.in_ok-last.last c.in_ok-last.ensures.1
-          c.in-Some.link low.0 low.1 low.2 c.push.new.stack c.push.ensures;
+          link_turns c.args.seen.now c.args.stack.now c.args.course c.requires.room c.requires.walking c.in_ok-last.last c.in_ok-last.ensures
+          c.in-Some.link c.in-Some.ensures.below c.push.new.stack c.push.ensures;
       value = λ sound.
-          link_leads c.args.seen.now c.args.stack.now c.args.course c.requires.room c.requires.walking c.in_ok-last.ensures.0 c.in_ok-last.last c.in_ok-last.ensures.1
-          c.in-Some.link low.0 low.1 low.2 c.push.new.stack c.push.ensures
+          link_leads c.args.seen.now c.args.stack.now c.args.course c.requires.room c.requires.walking c.in_ok-last.last c.in_ok-last.ensures
+          c.in-Some.link c.in-Some.ensures.below c.push.new.stack c.push.ensures
           g.S.Symbol.before g.met.S.Symbol.ordered (g.B.Shelf.vertices c.args.shelf.now) sound c.requires.size
-          (last_unmet c.args.seen.now c.args.stack.now c.args.course c.requires.room c.requires.walking c.in_ok-last.ensures.0 c.in_ok-last.last c.in_ok-last.ensures.1)
+          (last_unmet c.args.seen.now c.args.stack.now c.args.course c.requires.room c.requires.walking c.in_ok-last.last c.in_ok-last.ensures)
           (c.in-Some.ensures.value sound.formed);
     }
 
@@ -51,10 +34,10 @@ pub returns-in-None : goal.returns-in-None
 returns-in-None g c =
     record {
       walking =
-          vertex_turns c.args.seen.now c.args.stack.now c.args.course c.requires.room c.requires.walking c.in_ok-last.ensures.0 c.in_ok-last.last c.in_ok-last.ensures.1
+          vertex_turns c.args.seen.now c.args.stack.now c.args.course c.requires.room c.requires.walking c.in_ok-last.last c.in_ok-last.ensures
           c.meet.new.seen c.meet.ensures;
       value = λ sound.
-          vertex_leads c.args.seen.now c.args.stack.now c.args.course c.requires.room c.requires.walking c.in_ok-last.ensures.0 c.in_ok-last.last c.in_ok-last.ensures.1
+          vertex_leads c.args.seen.now c.args.stack.now c.args.course c.requires.room c.requires.walking c.in_ok-last.last c.in_ok-last.ensures
           c.meet.new.seen c.meet.ensures
           g.S.Symbol.before g.met.S.Symbol.ordered (g.B.Shelf.vertices c.args.shelf.now) sound c.requires.size
           (c.in-None.ensures.value sound.formed);
