@@ -1,13 +1,8 @@
--- What a pattern leaves of a slice, and a record written in two parts.
-use Rattle.std.proofs.Common.{◌≡◌, ℕ, ◌+◌, ◌-◌, ◌≤◌, cond, leb, List, [], ◌++◌, length, take, drop, Some, None, Option, sym, ap, ◌∙◌, append_assoc, append-nil, arith, length-drop, take_all, drop-drop, take_at, drop_at, le-leb}
+-- A record written in two parts.
+use Rattle.std.proofs.Common.{◌≡◌, ℕ, ◌+◌, ◌-◌, List, [], ◌++◌, length, take, drop, sym, ap, ◌∙◌, append_assoc, append-nil, arith, length-drop, take_all, drop-drop, take_at, drop_at}
 use borrow.Rule.Slice.PartMut.{put_mid}
 use Rattle.std.proofs.lemmas.List.{drop_all}
 use Rattle.ledger.specs.Dispatch.{be4}
-
-pub rest_is : (bs : List ℕ) → 14 ≤ length bs → ◌≡◌ {A = Option (List ℕ)} (Some (take (length bs - 14) (drop 14 bs))) (cond (leb 14 (length bs)) (Some (drop 14 bs)) None)
-rest_is bs h =
-    let all : take (length bs - 14) (drop 14 bs) ≡ drop 14 bs = take_all _ _ (omega (arith, length-drop 14 bs)) in
-    rw (le-leb 14 (length bs) h, all)
 
 -- a label, and links written right behind it
 links_behind : (label links out : List ℕ) (w : ℕ) → length label ≡ w →

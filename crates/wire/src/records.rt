@@ -10,6 +10,13 @@ use crate::head::be_word;
 use ledger::Vertex;
 use symbols::{Symbol, WireSymbol};
 
+// How many bytes a record has: those of its label, and four for each link.
+pub fn record_length<S: WireSymbol>() -> usize
+    ensures { result ≡ S.WireSymbol.travel.width + 8 }
+{
+    S::width() + 8
+}
+
 // The number in the four bytes from `at` on.
 fn word_at(bytes: &[u8], at: usize) -> u32
     requires { at + 4 ≤ length bytes.now }
@@ -44,9 +51,8 @@ pub fn zero_label_after<S: WireSymbol>(label: S, zero: u32, records: &[u8]) -> b
     if zero < 2 {
         return true;
     }
-    let width = S::width();
-    let start = (zero - 2) as usize * (width + 8);
-    S::read(&records[start..start + width]).is_ok_and(|later| label.before(later))
+    let start = (zero - 2) as usize * record_length::<S>();
+    S::read(&records[start..start + S::width()]).is_ok_and(|later| label.before(later))
 }
 
 // Writes two links to the start of `out`.

@@ -13,10 +13,10 @@ pub next_start : (w k : ℕ) → start_of w (k + 1) ≡ start_of w k + (w + 8)
 next_start w k = let e : k + 1 ≡ suc k = omega arith in rw e (omega (arith, suc-mul k (w + 8)))
 
 -- record k ends where the records end, at the latest
-pub record_within : (w k met room : ℕ) → k < met → 14 + met * (w + 8) ≤ room → 14 + k * (w + 8) + (w + 8) ≤ room
-record_within w k met room h l =
-    let most : suc k * (w + 8) ≤ met * (w + 8) = (let s : suc k ≤ met = omega arith in mul-le-mul_right (w + 8) s) in
-    omega (arith, suc-mul k (w + 8))
+pub record_within : (size k met room : ℕ) → k < met → 14 + met * size ≤ room → 14 + k * size + size ≤ room
+record_within size k met room h l =
+    let most : suc k * size ≤ met * size = (let s : suc k ≤ met = omega arith in mul-le-mul_right size s) in
+    omega (arith, suc-mul k size)
 
 -- what is behind stays behind
 pub drop_later : (a b : ℕ) (xs ys : List ℕ) → a ≤ b → drop a xs ≡ drop a ys → drop b xs ≡ drop b ys
@@ -25,16 +25,13 @@ drop_later a b xs ys h e =
     ap (λ n. drop n xs) (sym s) ∙ sym (drop-drop (b - a) a xs) ∙ ap (drop (b - a)) e ∙ drop-drop (b - a) a ys ∙ ap (λ n. drop n ys) s
 
 -- a part of the size of a record is a record then
-pub put_record : (k w width : ℕ) (out ys part rec : List ℕ) → w ≡ width → length part ≤ width + 8 → ys ≡ rec ++ drop (width + 8) part →
-    put_mid (14 + k * (w + 8)) (14 + k * (w + 8) + (w + 8) - (14 + k * (w + 8))) out ys ≡ take (start_of width k) out ++ (rec ++ drop (start_of width (k + 1)) out)
-put_record k w width out ys part rec e l is =
-    let a = 14 + k * (w + 8) in
-    let n : 14 + k * (w + 8) + (w + 8) - (14 + k * (w + 8)) ≡ w + 8 = omega arith in
+pub put_record : (k size width : ℕ) (out ys part rec : List ℕ) → size ≡ width + 8 → length part ≤ width + 8 → ys ≡ rec ++ drop (width + 8) part →
+    put_mid (14 + k * size) (14 + k * size + size - (14 + k * size)) out ys ≡ take (start_of width k) out ++ (rec ++ drop (start_of width (k + 1)) out)
+put_record k size width out ys part rec e l is =
+    let n : 14 + k * size + size - (14 + k * size) ≡ width + 8 = omega (arith, e) in
     let whole : ys ≡ rec = is ∙ ap (λ r. rec ++ r) (drop_all (width + 8) part l) ∙ append-nil rec in
-    let behind : drop (w + 8) (drop (14 + k * (w + 8)) out) ≡ drop (start_of w (k + 1)) out = drop-drop (w + 8) (14 + k * (w + 8)) out ∙ ap (λ j. drop j out) (sym (next_start w k)) in
-    ap (λ j. take (14 + k * (w + 8)) out ++ (ys ++ drop j (drop (14 + k * (w + 8)) out))) n ∙
-    ap₂ (λ r s. take (14 + k * (w + 8)) out ++ (r ++ s)) whole behind ∙
-    ap (λ x. take (start_of x k) out ++ (rec ++ drop (start_of x (k + 1)) out)) e
+    let behind : drop (width + 8) (drop (start_of width k) out) ≡ drop (start_of width (k + 1)) out = drop-drop (width + 8) (start_of width k) out ∙ ap (λ j. drop j out) (sym (next_start width k)) in
+    (λ i. take (14 + k * e i) out ++ (whole i ++ drop (n i) (drop (14 + k * e i) out))) ∙ ap (λ s. take (start_of width k) out ++ (rec ++ s)) behind
 
 -- and what is behind it stays
 pub put_kept : (k width : ℕ) (out rec after : List ℕ) → length rec ≡ width + 8 → start_of width k ≤ length out →

@@ -1,5 +1,5 @@
 -- One turn of a walk.
-use Rattle.std.proofs.Common.{◌≡◌, ℕ, suc, ◌+◌, ◌-◌, ◌<◌, ◌≤◌, Bool, List, [], ◌∷◌, map, length, set, Some, None, sym, ap, ◌∙◌, subst, arith}
+use Rattle.std.proofs.Common.{◌≡◌, ℕ, suc, ◌+◌, ◌-◌, ◌<◌, ◌≤◌, Bool, List, [], ◌∷◌, map, length, set, Some, None, sym, refl, ap, ◌∙◌, subst, arith}
 use mathlib.Core.Path.{subst⁻¹}
 use Rattle.symbols.specs.Order.{Order}
 use Rattle.memory.specs.declared.work.Place.{Place}
@@ -13,11 +13,15 @@ use Rattle.writing.proofs.Meeting.{met_long, sparse_more, numbers_more, room}
 use Rattle.writing.proofs.Stacking.{length_waiting, waiting_last, waiting_push, stacked_push, stacked_few, stacked_pop, less_push, less_meet, first_small, stacked_start}
 use Rattle.writing.proofs.Unwinding.{link_first, vertex_last, starts_all}
 
--- the last that waits lies on the stack
-pub in_stack : (seen stack : List Place) (c : Course) → length seen ≤ length stack → Walking seen stack c → (c.depth ≡ 0 → ⊥) → (0 < c.depth) × (c.depth ≤ length stack)
-in_stack seen stack c fits w some =
-    let few = stacked_few seen c.met (list_at stack (c.depth - 1)) (waiting stack (c.depth - 1)) (subst (Stacked seen c.met) (waiting_last stack c.depth (omega arith)) w.2) in
-    (omega arith, omega (arith, length_waiting stack (c.depth - 1)))
+-- what waits lies on the stack
+pub in_stack : (seen stack : List Place) (c : Course) → length seen ≤ length stack → Walking seen stack c → c.depth ≤ length stack
+in_stack seen stack c fits w = by (waiting stack c.depth) refl
+  where
+    by : (ns : List ℕ) → waiting stack c.depth ≡ ns → c.depth ≤ length stack
+    by [] e = omega (arith, length_waiting stack c.depth, ap length e)
+    by (n ∷ ns) e =
+        let few = stacked_few seen c.met n ns (subst (Stacked seen c.met) e w.2) in
+        omega (arith, length_waiting stack c.depth, ap length e)
 
 module _ (seen stack : List Place) (c : Course) (fits : length seen ≤ length stack) (w : Walking seen stack c) (some : c.depth ≡ 0 → ⊥)
     (last : ℕ) (is_last : last ≡ list_at stack (c.depth - 1)) where

@@ -6,9 +6,11 @@ use native.Mathlib.Decide.{ℕ_discrete}
 use lib.ListN.{length-map, get_or-map}
 use Rattle.symbols.specs.Order.{Order}
 use Rattle.memory.specs.declared.work.Place.{Place}
+use Rattle.memory.proofs.Looks.{looked}
 use Rattle.ledger.specs.declared.Vertex.{Vertex}
 use Rattle.ledger.specs.Lists.{Codes, none, begun}
-use Rattle.ledger.specs.Diagrams.{look, Good, Sound}
+use Rattle.std.specs.Option.{option_map}
+use Rattle.ledger.specs.Diagrams.{look, parts, Good, Sound}
 use Rattle.ledger.specs.Ledger.{listed, position, number, lay, lists, codes}
 use Rattle.ledger.proofs.Reading.{true_false, none_some}
 use Rattle.ledger.proofs.Canon.{Kind, is_0, is_1, is_vertex, kind, vertex_good}
@@ -17,6 +19,13 @@ use Rattle.ledger.proofs.Rows.{both_ways, Known, known_held, listed_front, liste
 use Rattle.ledger.proofs.Drawn.{Pictured, pictured}
 use Rattle.writing.specs.Met.{list_at, met_numbers, Sparse, Unmet}
 use Rattle.writing.specs.Walks.{Passed, laying_all, starting}
+
+-- what is read of a number is its vertex
+pub read_is : {S : Type 0} (vs : List (Vertex S)) (n : ℕ) (label : S) (low high : ℕ) → Some (label, low, high) ≡ option_map parts (look vs n) →
+    look vs n ≡ Some (record { label = label; zero = low; one = high })
+read_is {S} vs n label low high e =
+    let l = looked vs n (label, low, high) e in
+    l.1 ∙ ap (λ (t : S × ℕ × ℕ). Some (record { label = t.0; zero = t.1; one = t.2 })) (sym l.2)
 
 -- a good number from 2 on has a vertex
 pub has_vertex : {S : Type 0} (vs : List (Vertex S)) (n : ℕ) → Good vs n → 2 ≤ n → look vs n ≡ None → ⊥

@@ -15,15 +15,15 @@ use Rattle.wire.specs.Written.{written}
 use Rattle.writing.specs.Met.{Sparse, NewLink}
 use Rattle.writing.specs.Records.{Filled, start_of}
 use Rattle.writing.specs.Writes.{Writes}
-use Rattle.writing.specs.declared.ShortOutput.{ShortOutput}
+use Rattle.symbols.specs.declared.ShortOutput.{ShortOutput}
 use Rattle.writing.proofs.Unwinding.{met_lists}
 use Rattle.writing.proofs.Filling.{length_records}
 use Rattle.writing.proofs.Drawing.{fresh_many, fresh_root, fresh_drawn}
 
 -- a dispatch's length fits four bytes
-pub whole_fits : (met w : ℕ) → met ≤ 1000000 → w ≤ 8 → 14 + met * (w + 8) ≤ 16000014
-whole_fits met w h l =
-    let most : met * (w + 8) ≤ 1000000 * 16 = (let k : w + 8 ≤ 16 = omega arith in mul-le-mul h k) in
+pub whole_fits : (met size : ℕ) → met ≤ 1000000 → size ≤ 16 → 14 + met * size ≤ 16000014
+whole_fits met size h l =
+    let most : met * size ≤ 1000000 * 16 = mul-le-mul h l in
     omega arith
 
 -- what is behind the head stays
@@ -42,29 +42,29 @@ module _ {S : Type 0} (before : S → S → Bool) (order : Order before) (t : Tr
       let body = length_records t.bytes t.width long (fresh before (codes vs list)).drawn ∙ ap (λ n. n * (t.width + 8)) drawn_many in
       omega (arith, body)
 
-  pub too_short : (w : ℕ) (out : List ℕ) (e : ShortOutput) → w ≡ t.width → length out < 14 + m * (w + 8) → Writes (written before t (codes vs list)) out (Err e) out
-  too_short w out e same h =
+  pub too_short : (n : ℕ) (out : List ℕ) (e : ShortOutput) → n ≡ t.width + 8 → length out < 14 + m * n → Writes (written before t (codes vs list)) out (Err e) out
+  too_short n out e same h =
       let all = written_size in
-      let more = ap (λ x. 14 + m * (x + 8)) same in
+      let more = ap (λ x. 14 + m * x) same in
       (omega (arith, all, more), refl)
 
-  pub whole_written : (w kind root : ℕ) (out mid after : List ℕ) → w ≡ t.width → kind ≡ t.kind → NewLink ps m list root →
-      mid ≡ head_bytes (record { whole = 14 + m * (w + 8); version = 1; kind = kind; count = m; root = root }) ++ drop 14 out →
+  pub whole_written : (n kind root : ℕ) (out mid after : List ℕ) → n ≡ t.width + 8 → kind ≡ t.kind → NewLink ps m list root →
+      mid ≡ head_bytes (record { whole = 14 + m * n; version = 1; kind = kind; count = m; root = root }) ++ drop 14 out →
       Filled vs ps m m t.width t.bytes mid after →
-      Writes {F = ShortOutput} (written before t (codes vs list)) out (Ok (14 + m * (w + 8))) after
-  whole_written w kind root out mid after same kinds new is f =
+      Writes {F = ShortOutput} (written before t (codes vs list)) out (Ok (14 + m * n)) after
+  whole_written n kind root out mid after same kinds new is f =
       let d = fresh before (codes vs list) in
-      let size_is : 14 + m * (w + 8) ≡ 14 + m * (t.width + 8) = ap (λ x. 14 + m * (x + 8)) same in
+      let size_is : 14 + m * n ≡ 14 + m * (t.width + 8) = ap (λ x. 14 + m * x) same in
       let many = sym drawn_many in
       let ws_is : f.0 ≡ d.drawn = fresh_drawn before order vs sound ps m sparse size list good laid f.0 f.1 in
       let root_is : root ≡ d.root = fresh_root before order vs sound ps m sparse size list good laid root new in
-      let whole_is : 14 + m * (w + 8) ≡ 14 + length d.drawn * (t.width + 8) = size_is ∙ ap (λ n. 14 + n * (t.width + 8)) many in
-      let head : Head = record { whole = 14 + m * (w + 8); version = 1; kind = kind; count = m; root = root } in
+      let whole_is : 14 + m * n ≡ 14 + length d.drawn * (t.width + 8) = size_is ∙ ap (λ k. 14 + k * (t.width + 8)) many in
+      let head : Head = record { whole = 14 + m * n; version = 1; kind = kind; count = m; root = root } in
       let first : take 14 mid ≡ head_bytes head = ap (take 14) is ∙ take_at (head_bytes head) (drop 14 out) 14 refl in
-      let rest : drop (start_of t.width m) mid ≡ drop (14 + m * (w + 8)) out =
-      head_kept (m * (t.width + 8)) head out mid is ∙ ap (λ n. drop n out) (sym size_is) in (
+      let rest : drop (start_of t.width m) mid ≡ drop (14 + m * n) out =
+      head_kept (m * (t.width + 8)) head out mid is ∙ ap (λ k. drop k out) (sym size_is) in (
         size_is ∙ sym written_size,
         f.2 ∙
             ap₂ (λ a b. a ++ (records t.bytes f.0 ++ b)) first rest ∙
-            (λ i. head_bytes (record { whole = whole_is i; version = 1; kind = kinds i; count = many i; root = root_is i }) ++ (records t.bytes (ws_is i) ++ drop (14 + m * (w + 8)) out)),
+            (λ i. head_bytes (record { whole = whole_is i; version = 1; kind = kinds i; count = many i; root = root_is i }) ++ (records t.bytes (ws_is i) ++ drop (14 + m * n) out)),
       )

@@ -12,21 +12,16 @@ mod walk;
 ghost use Rattle.std.specs.Prelude.{◌≡◌, ◌+◌, ◌*◌, ◌≤◌, length};
 ghost use Rattle.ledger.specs.Diagrams.{Good, Sound};
 ghost use Rattle.ledger.specs.Ledger.{codes};
-ghost use Rattle.wire.specs.Records.{travel};
 ghost use Rattle.wire.specs.Written.{written};
 ghost use Rattle.writing.specs.Writes.{Writes, PastKept};
 
-use crate::met::new_link;
 use crate::records::write_records;
 use crate::walk::walk;
 use memory::shelf::Shelf;
 use memory::work::Place;
-use symbols::WireSymbol;
-use wire::head::{Head, write_head};
-
-// The output is too short for the dispatch.
-#[derive(Clone, Copy)]
-pub struct ShortOutput;
+use symbols::{ShortOutput, WireSymbol};
+use wire::head::{HEAD_LENGTH, Head, VERSION, write_head};
+use wire::records::record_length;
 
 // The dispatch of a list at the start of `out`, and its length.
 pub fn write<S: WireSymbol, B: Shelf<S>>(
@@ -42,19 +37,19 @@ pub fn write<S: WireSymbol, B: Shelf<S>>(
 {
     let used = shelf.used() as usize;
     let (seen, stack) = work.split_at_mut(used);
-    let count = walk(shelf, list, seen, stack);
-    let whole = 14 + count as usize * (S::width() + 8);
+    let seen = walk(shelf, list, seen, stack);
+    let whole = HEAD_LENGTH + seen.met as usize * record_length::<S>();
     if out.len() < whole {
         return Err(ShortOutput);
     }
     let head = Head {
         whole: whole as u32,
-        version: 1,
+        version: VERSION,
         kind: S::kind(),
-        count,
-        root: new_link(seen, count, list),
+        count: seen.met,
+        root: seen.new_link(list),
     };
     write_head(head, out);
-    write_records(shelf, seen, count, out);
+    write_records(shelf, &seen, out);
     Ok(whole)
 }

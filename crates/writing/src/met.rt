@@ -6,38 +6,46 @@ ghost use Rattle.writing.specs.Met.{Sparse, Stands, Unmet, Met, MetOrNot, NewLin
 
 use memory::work::Place;
 
-// Where a vertex stands in the order; nothing if it is not met.
-pub(crate) fn find_met(seen: &[Place], met: u32, n: u32) -> Option<u32>
-    requires few { met ≤ length seen.now }
-    requires vertex { (2 ≤ n) × (n ≤ length seen.now + 1) }
-    requires sparse { Sparse seen.now met }
-    ensures { Stands seen.now met n result }
-{
-    let own = seen[(n - 2) as usize];
-    let k = own.number;
-    if k >= met {
-        return None;
-    }
-    let there = seen[k as usize];
-    if there.list != n {
-        return None;
-    }
-    Some(k)
+// The places of all vertices, and how many vertices are met.
+#[derive(Clone, Copy)]
+pub(crate) struct Seen<'a> {
+    pub(crate) places: &'a [Place],
+    pub(crate) met: u32,
+    ghost few: { met ≤ length places.now },
+    ghost short: { length places.now ≤ 1000000 },
+    ghost sparse: { Sparse places.now met },
 }
 
-// Whether a link is a vertex that is not met yet.
-pub(crate) fn is_unmet(seen: &[Place], met: u32, link: u32) -> bool
-    requires few { met ≤ length seen.now }
-    requires good { link ≤ length seen.now + 1 }
-    requires sparse { Sparse seen.now met }
-    ensures { MetOrNot seen.now met link result }
-{
-    if link < 2 {
-        return false;
+impl Seen<'_> {
+    // Where a vertex stands in the order; nothing if it is not met.
+    fn find(&self, n: u32) -> Option<u32>
+        requires { (2 ≤ n) × (n ≤ length self.now.places.now + 1) }
+        ensures { Stands self.now.places.now self.now.met n result }
+    {
+        let k = self.places[(n - 2) as usize].number;
+        (k < self.met && self.places[k as usize].list == n).then_some(k)
     }
-    match find_met(seen, met, link) {
-        Some(_) => false,
-        None => true,
+
+    // Whether a link is a vertex that is not met yet.
+    pub(crate) fn is_unmet(&self, link: u32) -> bool
+        requires { link ≤ length self.now.places.now + 1 }
+        ensures { MetOrNot self.now.places.now self.now.met link result }
+    {
+        link >= 2 && self.find(link).is_none()
+    }
+
+    // A link's number in the dispatch: terminals stay, and the vertices that are met are numbered from 2 in their order.
+    pub(crate) fn new_link(&self, link: u32) -> u32
+        requires { link ≤ length self.now.places.now + 1 }
+        ensures { NewLink self.now.places.now self.now.met link result }
+    {
+        if link < 2 {
+            return link;
+        }
+        match self.find(link) {
+            Some(k) => k + 2,
+            None => 0,
+        }
     }
 }
 
@@ -47,25 +55,6 @@ pub(crate) fn meet(seen: &mut [Place], met: u32, n: u32)
     requires vertex { (2 ≤ n) × (n ≤ length seen.old + 1) }
     ensures { seen.new ≡ with_met seen.old met n }
 {
-    let next = seen[met as usize];
-    seen[met as usize] = Place { list: n, ..next };
-    let own = seen[(n - 2) as usize];
-    seen[(n - 2) as usize] = Place { number: met, ..own };
-}
-
-// A link's number in the dispatch: terminals stay, and the vertices that are met are numbered from 2 in their order.
-pub(crate) fn new_link(seen: &[Place], met: u32, link: u32) -> u32
-    requires few { met ≤ length seen.now }
-    requires short { length seen.now ≤ 1000000 }
-    requires good { link ≤ length seen.now + 1 }
-    requires sparse { Sparse seen.now met }
-    ensures { NewLink seen.now met link result }
-{
-    if link < 2 {
-        return link;
-    }
-    match find_met(seen, met, link) {
-        Some(k) => k + 2,
-        None => 0,
-    }
+    seen[met as usize].list = n;
+    seen[(n - 2) as usize].number = met;
 }

@@ -1,12 +1,13 @@
 // The walk from a list: a vertex's zero link, its one link, then the vertex itself, each vertex once. The vertices that
-// wait for their links lie on a stack; their numbers fall along it, so it is never deeper than there are vertices.
-ghost use Rattle.std.specs.Prelude.{◌≡◌, ◌+◌, ◌-◌, ◌<◌, ◌≤◌, [], map, length, slice_set};
+// wait for their links lie on a stack in lent places; their numbers fall along it, so it is never deeper than there are
+// vertices.
+ghost use Rattle.std.specs.Prelude.{◌≡◌, ◌+◌, ◌-◌, ◌<◌, ◌≤◌, ◌≢◌, [], map, length, slice_set, MatchOption};
 ghost use Rattle.ledger.specs.Diagrams.{Formed, Sound};
 ghost use Rattle.ledger.specs.Ledger.{codes, lay};
-ghost use Rattle.writing.specs.Met.{Sparse, list_at, met_numbers};
+ghost use Rattle.writing.specs.Met.{list_at, met_numbers};
 ghost use Rattle.writing.specs.Walks.{waiting_place, NextBelow, NextLink, Walking, Turns, TurnsTo, Starts};
 
-use crate::met::{is_unmet, meet};
+use crate::met::{Seen, meet};
 use memory::reading::read_vertex;
 use memory::shelf::Shelf;
 use memory::work::Place;
@@ -20,21 +21,17 @@ struct Course {
 }
 
 // The first link of a vertex that is not met yet, if there is one.
-fn next_link<S: Symbol, B: Shelf<S>>(shelf: &B, n: u32, seen: &[Place], met: u32) -> Option<u32>
-    requires few { met ≤ length seen.now }
-    requires vertex { (2 ≤ n) × (n ≤ length seen.now + 1) }
-    requires sparse { Sparse seen.now met }
-    requires size { length seen.now ≡ length (B.Shelf.vertices shelf.now) }
-    ensures below { NextBelow seen.now met n result }
-    ensures value { Formed S.Symbol.before (B.Shelf.vertices shelf.now) → NextLink (B.Shelf.vertices shelf.now) seen.now met n result }
+fn next_link<S: Symbol, B: Shelf<S>>(shelf: &B, n: u32, seen: &Seen) -> Option<u32>
+    requires vertex { (2 ≤ n) × (n ≤ length seen.now.places.now + 1) }
+    requires size { length seen.now.places.now ≡ length (B.Shelf.vertices shelf.now) }
+    ensures below { NextBelow seen.now.places.now seen.now.met n result }
+    ensures value { Formed S.Symbol.before (B.Shelf.vertices shelf.now) → NextLink (B.Shelf.vertices shelf.now) seen.now.places.now seen.now.met n result }
 {
-    let Some((_, zero, one)) = read_vertex(shelf, n) else {
-        return None;
-    };
-    if is_unmet(seen, met, zero) {
+    let (_, zero, one) = read_vertex(shelf, n)?;
+    if seen.is_unmet(zero) {
         return Some(zero);
     }
-    if is_unmet(seen, met, one) {
+    if seen.is_unmet(one) {
         return Some(one);
     }
     None
@@ -45,21 +42,17 @@ fn push(stack: &mut [Place], depth: u32, n: u32)
     ensures { stack.new ≡ slice_set stack.old depth (waiting_place n) }
 {
     stack[depth as usize] = Place {
-        state: 0,
         list: n,
-        other: 0,
-        number: 0,
-        count: 0,
+        ..Place::default()
     };
 }
 
-// The number that waits last.
-fn last_waiting(stack: &[Place], depth: u32) -> u32
-    requires { (0 < depth) × (depth ≤ length stack.now) }
-    ensures { result ≡ list_at stack.now (depth - 1) }
+// The number that waits last, if one waits.
+fn last_waiting(stack: &[Place], depth: u32) -> Option<u32>
+    requires { depth ≤ length stack.now }
+    ensures { MatchOption result (depth ≡ 0) (λ n. (depth ≢ 0) × (n ≡ list_at stack.now (depth - 1))) }
 {
-    let place = stack[(depth - 1) as usize];
-    place.list
+    stack[..depth as usize].last().map(|place| place.list)
 }
 
 // The last vertex that waits gives way to a link that is not met, or is met itself; nothing where none waits.
@@ -75,16 +68,17 @@ fn turn<S: Symbol, B: Shelf<S>>(
     ensures walking { Turns seen.old stack.old course result seen.new stack.new }
     ensures value { Sound S.Symbol.before (B.Shelf.vertices shelf.now) → TurnsTo S.Symbol.before (B.Shelf.vertices shelf.now) seen.old stack.old course result seen.new stack.new }
 {
-    if course.depth == 0 {
-        return None;
-    }
-    let last = last_waiting(stack, course.depth);
-    match next_link(shelf, last, seen, course.met) {
+    let last = last_waiting(stack, course.depth)?;
+    let met = Seen {
+        places: seen,
+        met: course.met,
+    };
+    match next_link(shelf, last, &met) {
         Some(link) => {
             push(stack, course.depth, link);
             Some(Course {
-                met: course.met,
                 depth: course.depth + 1,
+                ..course
             })
         }
         None => {
@@ -109,22 +103,25 @@ fn start(list: u32, stack: &mut [Place]) -> Course
     Course { met: 0, depth: 1 }
 }
 
-// Meets the vertices that are reached from the list, and answers how many they are.
-pub(crate) fn walk<S: Symbol, B: Shelf<S>>(
+// Meets the vertices that are reached from the list.
+pub(crate) fn walk<'a, S: Symbol, B: Shelf<S>>(
     shelf: &B,
     list: u32,
-    seen: &mut [Place],
+    seen: &'a mut [Place],
     stack: &mut [Place],
-) -> u32
+) -> Seen<'a>
     requires good { list ≤ length seen.old + 1 }
     requires size { length seen.old ≡ length (B.Shelf.vertices shelf.now) }
     requires room { length seen.old ≤ length stack.old }
-    ensures sparse { (result ≤ length seen.new) × Sparse seen.new result }
-    ensures value { Sound S.Symbol.before (B.Shelf.vertices shelf.now) → map (codes (B.Shelf.vertices shelf.now)) (met_numbers seen.new result) ≡ lay S.Symbol.before [] (codes (B.Shelf.vertices shelf.now) list) }
+    ensures size { length result.places.now ≡ length (B.Shelf.vertices shelf.now) }
+    ensures value { Sound S.Symbol.before (B.Shelf.vertices shelf.now) → map (codes (B.Shelf.vertices shelf.now)) (met_numbers result.places.now result.met) ≡ lay S.Symbol.before [] (codes (B.Shelf.vertices shelf.now) list) }
 {
     let mut course = start(list, stack);
     while let Some(next) = turn(shelf, course, seen, stack) {
         course = next;
     }
-    course.met
+    Seen {
+        places: seen,
+        met: course.met,
+    }
 }

@@ -1,14 +1,7 @@
-use Rattle.std.proofs.Common.{◌≡◌, ◌+◌, ◌≤◌, drop, refl, ◌∙◌, subst, arith}
-use Rattle.writing.specs.Records.{Filled, start_of}
-use Rattle.writing.proofs.Filling.{next_start, drop_later, filled_none, filled_more}
+use Rattle.std.proofs.Common.{◌+◌, ◌≤◌, ◌∙◌, arith}
+use Rattle.writing.specs.Records.{start_of}
+use Rattle.writing.proofs.Filling.{next_start, drop_later, filled_more}
 use Rattle.writing.proofs.records.write_records.Goals as goal
-
-pub loop-k-init : goal.loop-k-init
-loop-k-init g c = (
-  refl,
-  λ formed size.
-      filled_none g.S.WireSymbol.travel.bytes g.S.WireSymbol.travel.width g.met.S.WireSymbol.wired.long (g.B.Shelf.vertices c.args.shelf.now) c.args.seen.now c.args.met c.args.out.now,
-)
 
 pub loop-k-preserved : goal.loop-k-preserved
 loop-k-preserved g c =
@@ -17,18 +10,7 @@ loop-k-preserved g c =
     let behind = drop_later (start_of w c.loop-k.k) (start_of w (c.loop-k.k + 1)) c.loop-k.out c.args.out.now up c.loop-k.invariant.0 in (
       c.write_kth.ensures.kept ∙ behind,
       λ formed size.
-          filled_more g.S.WireSymbol.travel.bytes w g.met.S.WireSymbol.wired.long (g.B.Shelf.vertices c.args.shelf.now) c.args.seen.now c.args.met
-          c.loop-k.k c.args.out.now c.loop-k.out c.write_kth.new.out (omega (arith, c.requires.room)) (c.loop-k.invariant.1 formed size) behind
+          filled_more g.S.WireSymbol.travel.bytes w g.met.S.WireSymbol.wired.long (g.B.Shelf.vertices c.args.shelf.now) c.args.seen.now.places.now c.args.seen.now.met
+          c.loop-k.k c.args.out.now c.loop-k.out c.write_kth.new.out (omega (arith, c.requires)) (c.loop-k.invariant.1 formed size) behind
           (c.write_kth.ensures.value formed size),
     )
-
-pub returns : goal.returns
-returns g c =
-    let end : c.loop-k.k ≡ c.args.met = omega arith in
-    let w = g.S.WireSymbol.travel.width in
-    record {
-      kept = subst (λ k. drop (start_of w k) c.loop-k.out ≡ drop (start_of w k) c.args.out.now) end c.loop-k.invariant.0;
-      value = λ formed size.
-          subst (λ k. Filled (g.B.Shelf.vertices c.args.shelf.now) c.args.seen.now c.args.met k w g.S.WireSymbol.travel.bytes c.args.out.now c.loop-k.out) end
-          (c.loop-k.invariant.1 formed size);
-    }

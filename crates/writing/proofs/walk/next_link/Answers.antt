@@ -1,53 +1,26 @@
-use Rattle.std.proofs.Common.{◌≡◌, ℕ, ap, subst, inl, inr, arith}
-use Rattle.memory.proofs.Looks.{looked, unlooked}
+use Rattle.std.proofs.Common.{refl, subst, inl, inr}
 use Rattle.writing.specs.Met.{MetOrNot}
-use Rattle.writing.specs.Walks.{Passed}
-use Rattle.writing.proofs.Unwinding.{has_vertex}
+use Rattle.writing.proofs.Unwinding.{read_is}
 use Rattle.writing.proofs.walk.next_link.Goals as goal
 
-pub returns-in_default : goal.returns-in_default
-returns-in_default g c =
-    record {
-      below = tt;
-      value = λ formed.
-          absurd (has_vertex (g.B.Shelf.vertices c.args.shelf.now) c.args.n (omega arith) c.requires.vertex.0
-          (unlooked (g.B.Shelf.vertices c.args.shelf.now) c.args.n (c.in_default.ensures.value formed)));
-    }
+pub returns-then-is_unmet-clause-value : goal.returns-then-is_unmet-clause-value
+returns-then-is_unmet-clause-value g c = λ formed. (
+  record { label = _; zero = c.in_ok-zero.zero; one = c.in_ok-zero.one },
+  read_is (g.B.Shelf.vertices c.args.shelf.now) c.args.n _ c.in_ok-zero.zero c.in_ok-zero.one (c.in_ok-zero.ensures.value formed),
+  inl refl,
+)
 
-pub returns-then-is_unmet : goal.returns-then-is_unmet
-returns-then-is_unmet g c =
-    let low = c.in-Some.ensures.below in
-    let new = subst (MetOrNot c.args.seen.now c.args.met c.in-Some.zero) c.if-is_unmet.true c.is_unmet.ensures in
-    record {
-      below = (low.1, new.0, new.1);
-      value = λ formed.
-          let l = looked (g.B.Shelf.vertices c.args.shelf.now) c.args.n _ (c.in-Some.ensures.value formed) in
-          (l.0, l.1, inl (ap (λ (t : g.row.S.Denot × ℕ × ℕ). t.1) l.2));
-    }
+pub returns-then-is_unmet-2-clause-value : goal.returns-then-is_unmet-2-clause-value
+returns-then-is_unmet-2-clause-value g c = λ formed. (
+  record { label = _; zero = c.in_ok-zero.zero; one = c.in_ok-zero.one },
+  read_is (g.B.Shelf.vertices c.args.shelf.now) c.args.n _ c.in_ok-zero.zero c.in_ok-zero.one (c.in_ok-zero.ensures.value formed),
+  inr (subst (MetOrNot c.args.seen.now.places.now c.args.seen.now.met c.in_ok-zero.zero) c.if-is_unmet.false c.is_unmet.ensures, refl),
+)
 
-pub returns-then-is_unmet-2 : goal.returns-then-is_unmet-2
-returns-then-is_unmet-2 g c =
-    let low = c.in-Some.ensures.below in
-    let old = subst (MetOrNot c.args.seen.now c.args.met c.in-Some.zero) c.if-is_unmet.false c.is_unmet.ensures in
-    let new = subst (MetOrNot c.args.seen.now c.args.met c.in-Some.one) c.if-is_unmet-2.true c.is_unmet-2.ensures in
-    record {
-      below = (low.2, new.0, new.1);
-      value = λ formed.
-          let l = looked (g.B.Shelf.vertices c.args.shelf.now) c.args.n _ (c.in-Some.ensures.value formed) in
-          let zero_is : c.in-Some.zero ≡ l.0.zero = ap (λ (t : g.row.S.Denot × ℕ × ℕ). t.1) l.2 in
-          let one_is : c.in-Some.one ≡ l.0.one = ap (λ (t : g.row.S.Denot × ℕ × ℕ). t.2) l.2 in
-          (l.0, l.1, inr (subst (Passed c.args.seen.now c.args.met) zero_is old, one_is));
-    }
-
-pub returns : goal.returns
-returns g c =
-    let old = subst (MetOrNot c.args.seen.now c.args.met c.in-Some.zero) c.if-is_unmet.false c.is_unmet.ensures in
-    let new = subst (MetOrNot c.args.seen.now c.args.met c.in-Some.one) c.if-is_unmet-2.false c.is_unmet-2.ensures in
-    record {
-      below = tt;
-      value = λ formed.
-          let l = looked (g.B.Shelf.vertices c.args.shelf.now) c.args.n _ (c.in-Some.ensures.value formed) in
-          let zero_is : c.in-Some.zero ≡ l.0.zero = ap (λ (t : g.row.S.Denot × ℕ × ℕ). t.1) l.2 in
-          let one_is : c.in-Some.one ≡ l.0.one = ap (λ (t : g.row.S.Denot × ℕ × ℕ). t.2) l.2 in
-          (l.0, l.1, subst (Passed c.args.seen.now c.args.met) zero_is old, subst (Passed c.args.seen.now c.args.met) one_is new);
-    }
+pub returns-clause-value : goal.returns-clause-value
+returns-clause-value g c = λ formed. (
+  record { label = _; zero = c.in_ok-zero.zero; one = c.in_ok-zero.one },
+  read_is (g.B.Shelf.vertices c.args.shelf.now) c.args.n _ c.in_ok-zero.zero c.in_ok-zero.one (c.in_ok-zero.ensures.value formed),
+  subst (MetOrNot c.args.seen.now.places.now c.args.seen.now.met c.in_ok-zero.zero) c.if-is_unmet.false c.is_unmet.ensures,
+  subst (MetOrNot c.args.seen.now.places.now c.args.seen.now.met c.in_ok-zero.one) c.if-is_unmet-2.false c.is_unmet-2.ensures,
+)
