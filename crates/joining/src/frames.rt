@@ -19,42 +19,41 @@ pub struct Frame {
     pub stage: Stage,
 }
 
-fn from_place(place: Place) -> Frame
-    ensures { result ≡ frame_of place }
-{
-    let stage = if place.state == 0 {
-        Stage::Outer
-    } else {
-        Stage::Inner(place.number)
-    };
-    Frame {
-        pair: Pair {
-            first: place.list,
-            second: place.other,
-        },
-        stage,
+impl From<Place> for Frame {
+    ghost from_gives = { λ place frame. frame ≡ frame_of place };
+
+    fn from(place: Place) -> Frame {
+        let stage = if place.state == 0 {
+            Stage::Outer
+        } else {
+            Stage::Inner(place.number)
+        };
+        Frame {
+            pair: Pair {
+                first: place.list,
+                second: place.other,
+            },
+            stage,
+        }
     }
 }
 
-fn to_place(frame: Frame) -> Place
-    ensures { result ≡ place_of frame }
-{
-    let Pair { first, second } = frame.pair;
-    match frame.stage {
-        Stage::Outer => Place {
-            state: 0,
+impl From<Frame> for Place {
+    ghost from_gives = { λ frame place. place ≡ place_of frame };
+
+    fn from(frame: Frame) -> Place {
+        let Pair { first, second } = frame.pair;
+        let (state, number) = match frame.stage {
+            Stage::Outer => (0, 0),
+            Stage::Inner(zero) => (1, zero),
+        };
+        Place {
+            state,
             list: first,
             other: second,
-            number: 0,
-            count: 0,
-        },
-        Stage::Inner(zero) => Place {
-            state: 1,
-            list: first,
-            other: second,
-            number: zero,
-            count: 0,
-        },
+            number,
+            ..Place::default()
+        }
     }
 }
 
@@ -62,12 +61,12 @@ pub(crate) fn read_frame(work: &[Place], i: usize) -> Frame
     requires { i < length work.now }
     ensures { result ≡ frame_at work.now i }
 {
-    from_place(work[i])
+    Frame::from(work[i])
 }
 
 pub(crate) fn write_frame(work: &mut [Place], i: usize, frame: Frame)
     requires { i < length work.old }
     ensures { work.new ≡ slice_set work.old i (place_of frame) }
 {
-    work[i] = to_place(frame);
+    work[i] = Place::from(frame);
 }

@@ -30,7 +30,7 @@ pub fn question(rule: Rule, pair: Pair) -> Question
 {
     let Pair { first, second } = pair;
     Question {
-        rule: rule.number(),
+        rule: u8::from(rule),
         first,
         second,
     }

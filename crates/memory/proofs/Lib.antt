@@ -1,3 +1,4 @@
 pub mod Gathers
 pub mod Looks
 pub mod Marking
+mod Stacking

@@ -1,4 +1,5 @@
 pub mod Buckets
 pub mod Marks
 pub mod Shelves
+pub mod Stacked
 pub mod Tables

@@ -6,4 +6,5 @@ pub mod marks;
 pub mod reading;
 pub mod recall;
 pub mod shelf;
+pub mod stack;
 pub mod work;

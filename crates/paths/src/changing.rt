@@ -5,7 +5,7 @@
 // known at the bottom, before the shelf is touched.
 ghost use Rattle.std.specs.Prelude.{◌≡◌, ◌+◌, ◌≤◌, length};
 ghost use Rattle.ledger.specs.Ledger.{codes, Lays};
-ghost use Rattle.ledger.specs.Operations.{added, has, removed};
+ghost use Rattle.ledger.specs.Operations.{has};
 ghost use Rattle.paths.specs.Asked.{WhenGood};
 ghost use Rattle.paths.specs.Changed.{changed, end_number, as_it_is};
 ghost use Rattle.paths.specs.Waiting.{Stepped, Waits, Resumed, Rebuilt};
@@ -17,29 +17,31 @@ use memory::work::Place;
 use symbols::Symbol;
 
 // What is done to a list with a code.
-#[derive(Clone, Copy)]
-enum Change {
+#[derive(Clone, Copy, Debug, PartialEq, Eq)]
+pub enum Change {
     Add,
     Remove,
 }
 
-// Whether a code that is in the list, or not, leaves nothing to change.
-fn settled(change: Change, held: bool) -> bool
-    ensures { result ≡ as_it_is change held }
-{
-    match change {
-        Change::Add => held,
-        Change::Remove => !held,
+impl Change {
+    // Whether a code that is in the list, or not, leaves nothing to change.
+    fn is_settled(self, held: bool) -> bool
+        ensures { result ≡ as_it_is self held }
+    {
+        match self {
+            Change::Add => held,
+            Change::Remove => !held,
+        }
     }
-}
 
-// The terminal at the end of the code's path after the change.
-fn end_of(change: Change) -> u32
-    ensures { result ≡ end_number change }
-{
-    match change {
-        Change::Add => 1,
-        Change::Remove => 0,
+    // The terminal at the end of the code's path after the change.
+    fn end(self) -> u32
+        ensures { result ≡ end_number self }
+    {
+        match self {
+            Change::Add => 1,
+            Change::Remove => 0,
+        }
     }
 }
 
@@ -90,7 +92,7 @@ fn descend<S: Symbol, B: Shelf<S>>(shelf: &B, list: u32, code: &[S], work: &mut 
     let mut at = list;
     let mut spot = 0;
     while let Some((frame, next, then)) = step(shelf, at, code, spot) {
-        work[height] = frame.to_place();
+        work[height] = Place::from(frame);
         height += 1;
         at = next;
         spot = then;
@@ -121,15 +123,10 @@ fn resume<S: Symbol, B: Shelf<S>>(
             };
             shelf.find_or_append(label, number, one)
         }
-        Frame::One { zero, spot } => {
-            if number == 0 {
-                return Ok(zero);
-            }
-            if spot >= code.len() {
-                return Ok(zero);
-            }
-            shelf.find_or_append(code[spot], zero, number)
-        }
+        Frame::One { zero, spot } => match code.get(spot) {
+            Some(symbol) if number > 0 => shelf.find_or_append(*symbol, zero, number),
+            _ => Ok(zero),
+        },
     }
 }
 
@@ -151,7 +148,7 @@ fn rebuild<S: Symbol, B: Shelf<S>>(
     let mut left = height;
     while left > 0 {
         left -= 1;
-        match resume(shelf, code, Frame::from_place(work[left]), number) {
+        match resume(shelf, code, Frame::from(work[left]), number) {
             Ok(next) => number = next,
             Err(full) => {
                 shelf.cut(start);
@@ -162,8 +159,8 @@ fn rebuild<S: Symbol, B: Shelf<S>>(
     Ok(number)
 }
 
-// The list changed by the code, laid down; a full shelf is left as it was.
-fn alter<S: Symbol, B: Shelf<S>>(
+// The list with the code, or without it, laid down; a full shelf is left as it was.
+pub fn alter<S: Symbol, B: Shelf<S>>(
     shelf: &mut B,
     change: Change,
     list: u32,
@@ -176,38 +173,8 @@ fn alter<S: Symbol, B: Shelf<S>>(
     ensures size { B.Shelf.capacity shelf.new ≡ B.Shelf.capacity shelf.old }
 {
     let Descent { height, held } = descend(shelf, list, code, work);
-    if settled(change, held) {
+    if change.is_settled(held) {
         return Ok(list);
     }
-    rebuild(shelf, code, work, height, end_of(change))
-}
-
-// The list with the code.
-pub fn add<S: Symbol, B: Shelf<S>>(
-    shelf: &mut B,
-    list: u32,
-    code: &[S],
-    work: &mut [Place],
-) -> Result<u32, Full>
-    requires { list + length code.now ≤ length work.old }
-    ensures answer { B.Shelf.ready shelf.old → WhenGood S.Symbol.before (B.Shelf.vertices shelf.old) list (λ t. Lays S.Symbol.before (B.Shelf.capacity shelf.old) (B.Shelf.vertices shelf.old) (added S.Symbol.before t code.now) result (B.Shelf.vertices shelf.new)) }
-    ensures ready { B.Shelf.ready shelf.old → B.Shelf.ready shelf.new }
-    ensures size { B.Shelf.capacity shelf.new ≡ B.Shelf.capacity shelf.old }
-{
-    alter(shelf, Change::Add, list, code, work)
-}
-
-// The list without the code.
-pub fn remove<S: Symbol, B: Shelf<S>>(
-    shelf: &mut B,
-    list: u32,
-    code: &[S],
-    work: &mut [Place],
-) -> Result<u32, Full>
-    requires { list + length code.now ≤ length work.old }
-    ensures answer { B.Shelf.ready shelf.old → WhenGood S.Symbol.before (B.Shelf.vertices shelf.old) list (λ t. Lays S.Symbol.before (B.Shelf.capacity shelf.old) (B.Shelf.vertices shelf.old) (removed S.Symbol.before t code.now) result (B.Shelf.vertices shelf.new)) }
-    ensures ready { B.Shelf.ready shelf.old → B.Shelf.ready shelf.new }
-    ensures size { B.Shelf.capacity shelf.new ≡ B.Shelf.capacity shelf.old }
-{
-    alter(shelf, Change::Remove, list, code, work)
+    rebuild(shelf, code, work, height, change.end())
 }

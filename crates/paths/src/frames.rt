@@ -13,31 +13,29 @@ pub enum Frame {
     One { zero: u32, spot: usize },
 }
 
-impl Frame {
-    pub fn to_place(self) -> Place
-        ensures { frame_in result ≡ self }
-    {
-        match self {
+impl From<Frame> for Place {
+    ghost from_gives = { λ frame place. frame_in place ≡ frame };
+
+    fn from(frame: Frame) -> Place {
+        match frame {
             Frame::Zero { vertex } => Place {
-                state: 0,
                 list: vertex,
-                other: 0,
-                number: 0,
-                count: 0,
+                ..Place::default()
             },
             Frame::One { zero, spot } => Place {
                 state: 1,
                 list: zero,
-                other: 0,
-                number: 0,
                 count: spot as u64,
+                ..Place::default()
             },
         }
     }
+}
 
-    pub fn from_place(place: Place) -> Frame
-        ensures { result ≡ frame_in place }
-    {
+impl From<Place> for Frame {
+    ghost from_gives = { λ place frame. frame ≡ frame_in place };
+
+    fn from(place: Place) -> Frame {
         if place.state == 0 {
             Frame::Zero { vertex: place.list }
         } else {

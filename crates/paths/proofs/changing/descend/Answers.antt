@@ -22,9 +22,9 @@ loop-frame-preserved g c =
             st.good sound k.0,
             st.member sound k.0 ∙ k.1,
             λ change.
-                waits_push g.S.Symbol.before (g.B.Shelf.vertices c.args.shelf.now) _ c.loop-frame.work c.loop-frame.height c.to_place.result c.in-Some.frame _
+                waits_push g.S.Symbol.before (g.B.Shelf.vertices c.args.shelf.now) _ c.loop-frame.work c.loop-frame.height c.from.result c.in-Some.frame _
                 (changed g.S.Symbol.before change (codes (g.B.Shelf.vertices c.args.shelf.now) c.loop-frame.at) (drop c.loop-frame.spot c.args.code.now)) _
-                in_work c.to_place.ensures (st.makes sound k.0 change)
+                in_work c.from.ensures (st.makes sound k.0 change)
                 (changed_proper g.S.Symbol.before g.met.S.Symbol.ordered change _ _ (codes_proper g.S.Symbol.before g.met.S.Symbol.ordered _ sound c.loop-frame.at k.0))
                 (k.2 change),
           ),

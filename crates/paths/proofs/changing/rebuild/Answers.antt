@@ -23,7 +23,7 @@ loop-left-preserved g c = (
   λ ready whole sound good waits.
       let k = c.loop-left.invariant.3 ready whole sound good waits in
       let p = waits_pop g.S.Symbol.before (g.B.Shelf.vertices c.args.shelf.now) c.args.code.now c.args.work.now c.loop-left.left k.0 whole c.loop-left-test.true k.3 in
-      let makes = subst (λ (f : Frame). Makes (g.B.Shelf.vertices c.args.shelf.now) c.args.code.now f k.0 p.0) (sym c.from_place.ensures) p.1 in
+      let makes = subst (λ (f : Frame). Makes (g.B.Shelf.vertices c.args.shelf.now) c.args.code.now f k.0 p.0) (sym c.from.ensures) p.1 in
       let s = c.in-Ok.ensures.answer (c.loop-left.invariant.2 ready) (g.B.Shelf.vertices c.args.shelf.now) k.0 p.0 sound k.2 k.1 makes p.2 in
       (p.0, s.0, s.1, p.3),
 )
@@ -34,7 +34,7 @@ returns-in-Err g c =
       answer = λ ready whole sound good waits.
           let k = c.loop-left.invariant.3 ready whole sound good waits in
           let p = waits_pop g.S.Symbol.before (g.B.Shelf.vertices c.args.shelf.now) c.args.code.now c.args.work.now c.loop-left.left k.0 whole c.loop-left-test.true k.3 in
-          let makes = subst (λ (f : Frame). Makes (g.B.Shelf.vertices c.args.shelf.now) c.args.code.now f k.0 p.0) (sym c.from_place.ensures) p.1 in
+          let makes = subst (λ (f : Frame). Makes (g.B.Shelf.vertices c.args.shelf.now) c.args.code.now f k.0 p.0) (sym c.from.ensures) p.1 in
           let s = c.in-Err.ensures.answer (c.loop-left.invariant.2 ready) (g.B.Shelf.vertices c.args.shelf.now) k.0 p.0 sound k.2 k.1 makes p.2 in
           let l = waits_longer g.S.Symbol.before g.met.S.Symbol.ordered _ sound c.args.code.now c.args.work.now (c.loop-left.left - 1) p.0 whole p.3 in
           (omega (arith, s.0, l, c.loop-left.invariant.1), c.cut.ensures.vertices ∙ cut_back _ _ _ c.used-start.ensures s.1);

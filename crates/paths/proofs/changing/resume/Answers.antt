@@ -1,4 +1,4 @@
-use Rattle.std.proofs.Common.{refl, subst}
+use Rattle.std.proofs.Common.{refl, subst, arith}
 use Rattle.paths.specs.declared.frames.Frame.{Frame}
 use Rattle.paths.specs.Waiting.{Makes}
 use Rattle.paths.proofs.Growing.{resume_zero, zero_there, resume_one, resume_none, symbol_there}
@@ -23,33 +23,33 @@ returns-in-Some g c =
       size = c.find_or_append.ensures.size;
     }
 
-pub returns-then-number-eq0 : goal.returns-then-number-eq0
-returns-then-number-eq0 g c =
-    record {
-      answer = λ ready vs t u sound begins laid makes proper.
-          resume_none g.S.Symbol.before g.met.S.Symbol.ordered vs _ sound begins t _ laid u c.args.code.now c.in-One.zero c.in-One.spot
-          (subst (λ (f : Frame). Makes vs c.args.code.now f t u) c.in-One.is makes) c.if-number-eq0.true (g.B.Shelf.capacity c.args.shelf.now);
-      ready = λ ready. ready;
-      size = refl;
-    }
-
-pub returns-then-spot-code : goal.returns-then-spot-code
-returns-then-spot-code g c =
-    record {
-      answer = λ ready vs t u sound begins laid makes proper.
-          absurd (symbol_there g.S.Symbol.before g.met.S.Symbol.ordered vs _ sound begins t _ laid u c.args.code.now c.in-One.zero c.in-One.spot
-          (subst (λ (f : Frame). Makes vs c.args.code.now f t u) c.in-One.is makes) c.if-spot-code.true);
-      ready = λ ready. ready;
-      size = refl;
-    }
-
-pub returns-else-spot-code : goal.returns-else-spot-code
-returns-else-spot-code g c =
+pub returns-in-Some-get : goal.returns-in-Some-get
+returns-in-Some-get g c =
     record {
       answer = λ ready vs t u sound begins laid makes proper.
           resume_one g.S.Symbol.before g.met.S.Symbol.ordered vs _ sound begins t _ laid u c.args.code.now c.in-One.zero c.in-One.spot
-          (subst (λ (f : Frame). Makes vs c.args.code.now f t u) c.in-One.is makes) c.index-code-spot.result c.if-spot-code.false c.index-code-spot.is c.if-number-eq0.false proper
-          _ _ _ (c.find_or_append-in-One.ensures.answer ready);
-      ready = c.find_or_append-in-One.ensures.ready;
-      size = c.find_or_append-in-One.ensures.size;
+          (subst (λ (f : Frame). Makes vs c.args.code.now f t u) c.in-One.is makes) c.in-Some-get.symbol.now c.in-Some-get.ensures.lookup.3.0 c.in-Some-get.ensures.lookup.1 (omega arith) proper
+          _ _ _ (c.find_or_append-in-Some-get.ensures.answer ready);
+      ready = c.find_or_append-in-Some-get.ensures.ready;
+      size = c.find_or_append-in-Some-get.ensures.size;
+    }
+
+pub returns-in_default-get : goal.returns-in_default-get
+returns-in_default-get g c =
+    record {
+      answer = λ ready vs t u sound begins laid makes proper.
+          resume_none g.S.Symbol.before g.met.S.Symbol.ordered vs _ sound begins t _ laid u c.args.code.now c.in-One.zero c.in-One.spot
+          (subst (λ (f : Frame). Makes vs c.args.code.now f t u) c.in-One.is makes) (omega arith) (g.B.Shelf.capacity c.args.shelf.now);
+      ready = λ ready. ready;
+      size = refl;
+    }
+
+pub returns-in_default-get-2 : goal.returns-in_default-get-2
+returns-in_default-get-2 g c =
+    record {
+      answer = λ ready vs t u sound begins laid makes proper.
+          absurd (symbol_there g.S.Symbol.before g.met.S.Symbol.ordered vs _ sound begins t _ laid u c.args.code.now c.in-One.zero c.in-One.spot
+          (subst (λ (f : Frame). Makes vs c.args.code.now f t u) c.in-One.is makes) (rw c.in_default-get.is at c.get.ensures.lookup.3));
+      ready = λ ready. ready;
+      size = refl;
     }
