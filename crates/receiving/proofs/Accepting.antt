@@ -1,5 +1,5 @@
 -- What is accepted was written.
-use Rattle.std.proofs.Common.{◌≡◌, ℕ, zero, suc, ◌+◌, ◌*◌, ◌≤◌, Bool, List, [], length, Ok, Err, Result, sym, refl, inl, inr, arith}
+use Rattle.std.proofs.Common.{◌≡◌, ℕ, zero, suc, ◌+◌, ◌*◌, ◌≤◌, Bool, List, [], length, Ok, Err, Result, sym, refl, ap, ◌∙◌, subst, inl, inr, arith}
 use Rattle.symbols.specs.Order.{Order}
 use Rattle.symbols.specs.Wire.{Travel}
 use Rattle.symbols.specs.declared.SymbolFault.{SymbolFault}
@@ -16,9 +16,10 @@ use Rattle.wire.specs.declared.faults.FaultyRecord.{FaultyRecord}
 use Rattle.wire.specs.declared.faults.ReceiveFault.{ReceiveFault}
 use Rattle.receiving.specs.Checks.{head_checked, record_checked}
 use Rattle.receiving.specs.Lengths.{Short}
+use Rattle.receiving.specs.Reads.{ReadAs, rows_of, rows_in}
 use Rattle.receiving.specs.Receives.{AsWritten, Ends, ByRecords, ByHead, Receives}
 use Rattle.receiving.specs.Statements.{OnlyWritten}
-use Rattle.receiving.proofs.Records.{err_ok, ok_same, Reading, reading_none, reading_stop, reading_more, reading_all}
+use Rattle.receiving.proofs.Checking.{err_ok, Reading, reading_none, reading_stop, reading_more, reading_all}
 use Rattle.receiving.proofs.Dispatched.{head_right, head_few}
 
 module _ {S : Type 0} (before : S → S → Bool) (order : Order before) where
@@ -34,11 +35,11 @@ module _ {S : Type 0} (before : S → S → Bool) (order : Order before) where
       by (Ok v) e R = next (reading_more before order t bs n place (omega arith) R v (sym e))
       by (Err f) e R = absurd (err_ok (reading_stop before order t bs n place (omega arith) R f (sym e)) ok)
 
-  pub read_formed : (t : Travel S) (bs : List ℕ) (n : ℕ) (ds : List (Vertex S)) → records_in before t n [] bs ≡ Ok ds → length bs ≡ n * (t.width + 8) → Formed before ds
-  read_formed t bs n ds ok long =
-      let r = reading_all before order t bs n n refl long (read_on t bs n ds ok n (omega arith)) in
-      let e : r.0 ≡ ds = ok_same r.1 ok in
-      rw e at r.3
+  pub read_right : (t : Travel S) (bs : List ℕ) (n : ℕ) (ds : List (Vertex S)) → records_in before t n [] bs ≡ Ok ds → length bs ≡ n * (t.width + 8) → ReadAs t bs ds × Formed before ds × (length ds ≡ n)
+  read_right t bs n ds ok long =
+      let W = (reading_all before order t bs n n refl long (read_on t bs n ds ok n (omega arith))).0 in
+      let is : rows_in before t n bs ≡ ds = ap rows_of ok in
+      (subst (ReadAs t bs) is W.reads, subst (Formed before) is W.formed, sym (ap length is) ∙ W.many)
 
   module _ (kind width : ℕ) (bytes : S → List ℕ) (reads : List ℕ → Result S SymbolFault) where
     pub only_written : OnlyWritten before (travel kind width bytes reads)
@@ -50,7 +51,7 @@ module _ {S : Type 0} (before : S → S → Bool) (order : Order before) where
         ends h rest p ds q (inr (inl x)) = absurd (err_ok x.2.0 refl)
         ends h rest p ds q (inr (inr x)) =
             let few = head_few kind width capacity bs h rest (head_right kind width capacity bs h rest p) in
-            let f = read_formed (travel kind width bytes reads) rest h.count ds q few.1 in
+            let f = (read_right (travel kind width bytes reads) rest h.count ds q few.1).1 in
             (codes ds h.root, formed_proper before order ds f h.root x.0.0, x.1, x.0.1, x.2)
 
         by_records : (h : Head) (rest : List ℕ) → head_checked kind width capacity bs ≡ Ok (h, rest) → (y : Result (List (Vertex S)) FaultyRecord) → records_in before (travel kind width bytes reads) h.count [] rest ≡ y →

@@ -9,7 +9,8 @@ use Rattle.ledger.specs.Diagrams.{Different}
 use Rattle.ledger.proofs.Canon.{vertex_good}
 use Rattle.ledger.proofs.Reading.{none_some, some_same}
 use Rattle.memory.specs.declared.work.Place.{Place}
-use Rattle.receiving.specs.Tables.{bucket, latest, bucket_in, bucket_at, Table, FirstApart, PutInFront}
+use Rattle.memory.specs.Buckets.{bucket}
+use Rattle.receiving.specs.Tables.{latest, bucket_in, bucket_at, Table, FirstApart, PutInFront}
 use Rattle.receiving.specs.Walks.{vacant}
 
 module _ (f : ℕ → ℕ) where

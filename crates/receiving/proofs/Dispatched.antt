@@ -19,7 +19,7 @@ use Rattle.wire.specs.declared.faults.ReceiveFault.TheVariants.{BadLength, Other
 use Rattle.receiving.specs.Checks.{unless, head_checked, record_at}
 use Rattle.receiving.specs.Reads.{ReadAs}
 use Rattle.receiving.specs.Receives.{InOrder, AsWritten, Ends}
-use Rattle.receiving.proofs.Records.{err_ok, right_links}
+use Rattle.receiving.proofs.Checking.{err_ok, right_links}
 
 -- each element is a byte
 abbrev pub AllBytes : List ℕ → Type 0

@@ -1,13 +1,15 @@
 -- Records laid down one after another are their root's list laid down.
-use Rattle.std.proofs.Common.{◌≡◌, ℕ, zero, suc, ◌+◌, ◌-◌, ◌<◌, ◌≤◌, Bool, true, false, ◌⊎◌, List, [], ◌∷◌, ◌++◌, length, take, set, Some, None, Ok, Err, sym, refl, ap, ◌∙◌, subst, ap₂, inl, inr, append_assoc, append-nil, arith, length-append, take-suc}
+use Rattle.std.proofs.Common.{◌≡◌, ℕ, zero, suc, ◌+◌, ◌-◌, ◌<◌, ◌≤◌, Bool, true, false, ◌⊎◌, List, [], ◌∷◌, ◌++◌, length, take, set, Some, None, Ok, Err, Result, sym, refl, ap, ◌∙◌, subst, ap₂, inl, inr, append_assoc, append-nil, arith, length-append, take-suc}
 use mathlib.Core.Path.{subst⁻¹}
+use Rattle.std.specs.List.{slice_get}
+use Rattle.std.specs.Result.{is_err}
 use Rattle.std.proofs.lemmas.List.{take_at}
-use Rattle.std.proofs.lemmas.Bool.{cases_eq}
+use Rattle.std.proofs.lemmas.Bool.{cases_eq, false≢true}
 use Rattle.symbols.specs.Order.{Order}
 use Rattle.ledger.specs.declared.Vertex.{Vertex}
 use Rattle.ledger.specs.Lists.{Codes, none, begun, Proper}
 use Rattle.ledger.specs.Diagrams.{look, Formed, Good, Sound}
-use Rattle.ledger.specs.Ledger.{listed, lay, lists, codes, down, down_number}
+use Rattle.ledger.specs.Ledger.{listed, lay, lists, codes, down, down_number, Lays}
 use Rattle.ledger.specs.Laid.{Laid, First}
 use Rattle.ledger.specs.Visits.{Visits, passed, comes_to}
 use Rattle.ledger.proofs.Ends.{length_snoc}
@@ -21,7 +23,7 @@ use Rattle.memory.specs.declared.shelf.Full.{Full}
 use Rattle.memory.specs.declared.work.Place.{Place}
 use Rattle.memory.specs.Marks.{number_at, noted, noted_vertex}
 use Rattle.memory.specs.Shelves.{FoundOrAppended}
-use Rattle.receiving.specs.Layings.{lay_all, keeping, Laying, Settled}
+use Rattle.receiving.specs.Layings.{lay_all, Laying, Settled}
 
 -- what the places keep
 number_same : (ps : List Place) (k other : ℕ) (p : Place) → k < length ps → number_at (set ps k p) k other ≡ p.number
@@ -147,21 +149,15 @@ module _ {S : Type 0} (before : S → S → Bool) (order : Order before) where
       extends : us ≡ ws ++ extra
       laid : Laid before ws t us m
 
-    module _ (k : ℕ) (ws : List (Vertex S)) (work : List Place) (R : Laying before ds vs k ws work) (v : Vertex S) (at : look ds (k + 2) ≡ Some v) (few : k < length ds) where
-      two : k + 2 ≡ suc (suc k)
-      two = omega arith
-
-      at' : look ds (suc (suc k)) ≡ Some v
-      at' = ap (look ds) (sym two) ∙ at
-
+    module _ (k : ℕ) (ws : List (Vertex S)) (work : List Place) (R : Laying before ds vs k ws work) (v : Vertex S) (at : slice_get ds k ≡ Some v) (few : k < length ds) where
       z : Good ws (noted work v.zero) × (codes ws (noted work v.zero) ≡ codes ds v.zero)
-      z = R.numbers v.zero (let h = formed.zero_below (suc (suc k)) v at' in omega arith)
+      z = R.numbers v.zero (let h = formed.zero_below (suc (suc k)) v at in omega arith)
 
       o : Good ws (noted work v.one) × (codes ws (noted work v.one) ≡ codes ds v.one)
-      o = R.numbers v.one (let h = formed.one_below (suc (suc k)) v at' in omega arith)
+      o = R.numbers v.one (let h = formed.one_below (suc (suc k)) v at in omega arith)
 
       is : begun v.label (codes ws (noted work v.zero)) (codes ws (noted work v.one)) ≡ codes ds (suc (suc k))
-      is = ap₂ (begun v.label) z.1 o.1 ∙ sym (codes_formed before order ds formed (suc (suc k)) v at')
+      is = ap₂ (begun v.label) z.1 o.1 ∙ sym (codes_formed before order ds formed (suc (suc k)) v at)
 
       proper : Proper before (begun v.label (codes ws (noted work v.zero)) (codes ws (noted work v.one)))
       proper = subst⁻¹ (Proper before) is (formed_proper before order ds formed (suc (suc k)) (omega arith))
@@ -192,10 +188,10 @@ module _ {S : Type 0} (before : S → S → Bool) (order : Order before) where
             laid = subst⁻¹ (λ xs. Laid before ws (codes ds (suc (suc k))) xs m) q (subst (Laid before ws (codes ds (suc (suc k))) (ws ++ noted_vertex work v ∷ [])) e (if_new f.0));
           }
 
-      pub laying_more : (capacity m : ℕ) (us : List (Vertex S)) (kept : List Place) → k < length work → kept ≡ set work k (keeping m) → FoundOrAppended capacity ws (noted_vertex work v) (Ok m) us → Laying before ds vs (k + 1) us kept
-      laying_more capacity m us kept room e f = by (one_laid capacity m us f)
+      pub laying_more : (capacity m : ℕ) (us : List (Vertex S)) (p : Place) → k < length work → p.number ≡ m → FoundOrAppended capacity ws (noted_vertex work v) (Ok m) us → Laying before ds vs (k + 1) us (set work k p)
+      laying_more capacity m us p room e f = by (one_laid capacity m us f)
         where
-          by : OneLaid ws (codes ds (suc (suc k))) us m → Laying before ds vs (k + 1) us kept
+          by : OneLaid ws (codes ds (suc (suc k))) us m → Laying before ds vs (k + 1) us (set work k p)
           by one =
               record {
                 sound = one.laid.sound;
@@ -204,18 +200,18 @@ module _ {S : Type 0} (before : S → S → Bool) (order : Order before) where
                 row =
                     one.laid.row ∙ ap (λ r. lay before r (codes ds (suc (suc k)))) R.row ∙ sym (after_more ds formed (lists vs) (pictured before order vs sound).ledger k few) ∙
                     ap (λ n. lay_all before (lists vs) (take n (lists ds))) (let q : suc k ≡ k + 1 = omega arith in q);
-                numbers = λ n h. subst⁻¹ (λ ps. Good us (noted ps n) × (codes us (noted ps n) ≡ codes ds n)) e (each n h (cases_eq n (suc (suc k))));
+                numbers = λ n h. each n h (cases_eq n (suc (suc k)));
               }
             where
-              each : (n : ℕ) → n < k + 1 + 2 → (n ≡ suc (suc k)) ⊎ (n ≡ suc (suc k) → ⊥) → Good us (noted (set work k (keeping m)) n) × (codes us (noted (set work k (keeping m)) n) ≡ codes ds n)
+              each : (n : ℕ) → n < k + 1 + 2 → (n ≡ suc (suc k)) ⊎ (n ≡ suc (suc k) → ⊥) → Good us (noted (set work k p) n) × (codes us (noted (set work k p) n) ≡ codes ds n)
               each n h (inl s) =
-                  subst⁻¹ (λ x. Good us (noted (set work k (keeping m)) x) × (codes us (noted (set work k (keeping m)) x) ≡ codes ds x)) s
-                  (subst⁻¹ (λ y. Good us y × (codes us y ≡ codes ds (suc (suc k)))) (number_same work k (suc (suc k)) (keeping m) room) (one.laid.good, one.laid.is))
+                  subst⁻¹ (λ x. Good us (noted (set work k p) x) × (codes us (noted (set work k p) x) ≡ codes ds x)) s
+                  (subst⁻¹ (λ y. Good us y × (codes us y ≡ codes ds (suc (suc k)))) (number_same work k (suc (suc k)) p room ∙ e) (one.laid.good, one.laid.is))
               each n h (inr s) =
                   let old = R.numbers n (omega arith) in
                   let g = old.0 in
                   let l = ap length one.extends ∙ length-append ws one.extra in
-                  subst⁻¹ (λ y. Good us y × (codes us y ≡ codes ds n)) (noted_below work n k (keeping m) (omega arith))
+                  subst⁻¹ (λ y. Good us y × (codes us y ≡ codes ds n)) (noted_below work n k p (omega arith))
                   (omega arith, ap (λ xs. codes xs (noted work n)) one.extends ∙ codes_front before order ws one.extra (noted work n) g ∙ old.1)
 
       pub laying_full : (capacity root count : ℕ) (us : List (Vertex S)) (e : Full) → length ds ≡ count → Good ds root → Visits ds 0 root count → FoundOrAppended capacity ws (noted_vertex work v) (Err e) us → Settled before capacity vs (codes ds root) (Err e) us
@@ -262,6 +258,15 @@ module _ {S : Type 0} (before : S → S → Bool) (order : Order before) where
       let m = ap length laid.row in
       (omega arith, is.0, is.1)
 
+  -- what was laid down stands
+  pub stands : (capacity : ℕ) (vs : List (Vertex S)) (t : Codes S) (ws : List (Vertex S)) (r : Result ℕ Full) → is_err r ≡ false → length ws ≤ capacity → Settled before capacity vs t r ws → Lays before capacity vs t r ws
+  stands capacity vs t ws (Ok n) e room s = lands capacity vs t ws n room s
+  stands capacity vs t ws (Err f) e room s = absurd (false≢true (sym e))
+
 -- cut back to what there was
 pub cut_back : {S : Type 0} (vs more us ws : List (Vertex S)) (start : ℕ) → start ≡ length vs → us ≡ vs ++ more → ws ≡ take start us → ws ≡ vs
 cut_back vs more us ws start e x c = c ∙ ap (take start) x ∙ take_at _ _ _ (sym e)
+
+pub falls_back : {S : Type 0} (before : S → S → Bool) (capacity : ℕ) (vs : List (Vertex S)) (t : Codes S) (us ws : List (Vertex S)) (start : ℕ) (r : Result ℕ Full) → is_err r ≡ true → Settled before capacity vs t r us → start ≡ length vs → ws ≡ take start us → Lays before capacity vs t r ws
+falls_back before capacity vs t us ws start (Ok n) e s q c = absurd (false≢true e)
+falls_back before capacity vs t us ws start (Err f) e s q c = (s.0, cut_back vs s.1.0 us ws start q s.1.1 c)

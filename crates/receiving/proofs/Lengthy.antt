@@ -1,12 +1,13 @@
 -- The longest code of a list, from its outer and its inner list.
-use Rattle.std.proofs.Common.{◌≡◌, ℕ, zero, suc, ◌+◌, ◌<◌, ◌≤◌, min, max, Bool, ◌⊎◌, ◌↔◌, List, [], ◌∷◌, length, get_or, set, Some, sym, refl, ap, ◌∙◌, inl, inr, arith}
+use Rattle.std.proofs.Common.{◌≡◌, ℕ, zero, suc, ◌+◌, ◌<◌, ◌≤◌, min, max, Bool, ◌⊎◌, ◌↔◌, List, [], ◌∷◌, length, get_or, set, Some, refl, ap, ◌∙◌, inl, inr, arith}
 use mathlib.Core.Path.{subst⁻¹}
+use Rattle.std.specs.List.{slice_get}
 use Rattle.std.proofs.lemmas.List.{get_or-set_same, get_or-set_other}
 use Rattle.std.proofs.lemmas.Bool.{cases_eq, cases_lt}
 use Rattle.symbols.specs.Order.{Order}
 use Rattle.ledger.specs.declared.Vertex.{Vertex}
 use Rattle.ledger.specs.Lists.{Codes, none, blank, begun, Member, SomeCode, Proper}
-use Rattle.ledger.specs.Diagrams.{look, Formed}
+use Rattle.ledger.specs.Diagrams.{Formed}
 use Rattle.ledger.specs.Ledger.{codes}
 use Rattle.ledger.proofs.Draws.{codes_formed}
 use Rattle.memory.specs.declared.work.Place.{Place}
@@ -57,16 +58,14 @@ module _ {S : Type 0} where
   held ds k (suc zero) work m h = refl
   held ds k (suc (suc j)) work m h = m j (omega arith)
 
-  pub measured_one : (before : S → S → Bool) (order : Order before) (ds : List (Vertex S)) → Formed before ds → (k : ℕ) (v : Vertex S) (work : List Place) (outer inner r : ℕ) → look ds (k + 2) ≡ Some v → Measured ds k work →
+  pub measured_one : (before : S → S → Bool) (order : Order before) (ds : List (Vertex S)) → Formed before ds → (k : ℕ) (v : Vertex S) (work : List Place) (outer inner r : ℕ) → slice_get ds k ≡ Some v → Measured ds k work →
       outer ≡ length_in work v.zero → inner ≡ length_in work v.one → r ≡ max outer (min (inner + 1) 65) → r ≡ min (longest (codes ds (suc (suc k)))) 65
   measured_one before order ds f k v work outer inner r at m p q e =
-      let n : k + 2 ≡ suc (suc k) = omega arith in
-      let at' : look ds (suc (suc k)) ≡ Some v = ap (look ds) (sym n) ∙ at in
-      let lz = f.zero_below (suc (suc k)) v at' in
-      let lo = f.one_below (suc (suc k)) v at' in
+      let lz = f.zero_below (suc (suc k)) v at in
+      let lo = f.one_below (suc (suc k)) v at in
       let z : outer ≡ min (longest (codes ds v.zero)) 65 = p ∙ held ds k v.zero work m (omega arith) in
       let o : inner ≡ min (longest (codes ds v.one)) 65 = q ∙ held ds k v.one work m (omega arith) in
-      let is : longest (codes ds (suc (suc k))) ≡ max (longest (codes ds v.zero)) (suc (longest (codes ds v.one))) = ap longest (codes_formed before order ds f (suc (suc k)) v at') in
+      let is : longest (codes ds (suc (suc k))) ≡ max (longest (codes ds v.zero)) (suc (longest (codes ds v.one))) = ap longest (codes_formed before order ds f (suc (suc k)) v at) in
       omega arith
 
   pub measured_more : (ds : List (Vertex S)) (k : ℕ) (work : List Place) (p : Place) → k < length work → Measured ds k work → p.number ≡ min (longest (codes ds (suc (suc k)))) 65 → Measured ds (k + 1) (set work k p)

@@ -1,4 +1,4 @@
-pub mod Records
+pub mod Checking
 pub mod Walking
 pub mod Buckets
 pub mod Lengthy

@@ -14,10 +14,6 @@ abbrev pub lay_all : {S : Type 0} → (S → S → Bool) → List (Codes S) → 
 lay_all before row [] = row
 lay_all before row (t ∷ ts) = lay_all before (lay before row t) ts
 
--- the place that keeps a number
-abbrev pub keeping : ℕ → Place
-keeping n = record { state = 0; list = 0; other = 0; number = n; count = 0 }
-
 -- the first k records were laid down over the vertices vs, which are ws now; their places have the numbers of their lists
 pub record Laying {S : Type 0} (before : S → S → Bool) (ds vs : List (Vertex S)) (k : ℕ) (ws : List (Vertex S)) (work : List Place) : Type 0 where
   pub sound : Sound before ws

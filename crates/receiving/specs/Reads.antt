@@ -18,7 +18,16 @@ abbrev pub LinksFall : {S : Type 0} → ℕ → Option (Vertex S) → Type 0
 LinksFall n None = Unit {0}
 LinksFall n (Some v) = (2 ≤ n) × (v.zero < n) × (v.one < n)
 
--- n records were checked: the first faulty one answers; or they read as well formed vertices
-abbrev pub Checked : {S : Type 0} → (S → S → Bool) → Travel S → ℕ → List ℕ → Result (Unit {0}) FaultyRecord → Type 0
-Checked before t n bs (Err e) = records_in before t n [] bs ≡ Err e
-Checked {S} before t n bs (Ok u) = (ds : List (Vertex S)) × (records_in before t n [] bs ≡ Ok ds) × ReadAs t bs ds × Formed before ds × (length ds ≡ n)
+-- the vertices that n records read as; none, where one is faulty
+abbrev pub rows_of : {S : Type 0} → Result (List (Vertex S)) FaultyRecord → List (Vertex S)
+rows_of (Ok ds) = ds
+rows_of (Err e) = []
+
+abbrev pub rows_in : {S : Type 0} → (S → S → Bool) → Travel S → ℕ → List ℕ → List (Vertex S)
+rows_in before t n bs = rows_of (records_in before t n [] bs)
+
+-- n records, each of which is right
+pub record Whole {S : Type 0} (before : S → S → Bool) (t : Travel S) (n : ℕ) (bs : List ℕ) : Type 0 where
+  pub reads : ReadAs t bs (rows_in before t n bs)
+  pub formed : Formed before (rows_in before t n bs)
+  pub many : length (rows_in before t n bs) ≡ n

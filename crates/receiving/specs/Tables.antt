@@ -1,21 +1,10 @@
 -- The table that tells equal records: each record stands in the bucket of its vertex, behind those that came later.
-use Rattle.std.specs.Prelude.{◌≡◌, ℕ, zero, suc, ◌+◌, ◌*◌, ◌/◌, ◌%◌, ◌^◌, ◌<◌, cond, List, Some, None, Option, ◌==◌, ◌≢◌, bit_xor, slice_index_or}
+use Rattle.std.specs.Prelude.{◌≡◌, ℕ, zero, suc, ◌+◌, ◌<◌, cond, List, Some, None, Option, ◌==◌, ◌≢◌, slice_index_or}
 use Rattle.std.specs.List.{slice_get}
 use Rattle.ledger.specs.declared.Vertex.{Vertex}
 use Rattle.memory.specs.declared.work.Place.{Place}
+use Rattle.memory.specs.Buckets.{bucket}
 use Rattle.receiving.specs.Walks.{vacant}
-
--- some function of a scatter number and two links; no promise rests on which
-unfoldable pub mixed : ℕ → ℕ → ℕ → ℕ
-mixed scatter low high =
-    let label = (scatter * 0x9e37_79b9_7f4a_7c15) % 2 ^ 64 in
-    let links = ((low * 0xc2b2_ae3d_27d4_eb4f) % 2 ^ 64 + (high * 0xd6e8_feb8_6659_fd93) % 2 ^ 64) % 2 ^ 64 in
-    let sum = (label + links) % 2 ^ 64 in
-    bit_xor sum (sum / 2 ^ 32)
-
--- the bucket of a vertex among so many
-unfoldable pub bucket : {S : Type 0} → (S → ℕ) → ℕ → Vertex S → ℕ
-bucket scatter count v = mixed (scatter v.label) v.zero v.one % count
 
 -- the last of the first k with this bucket, counted from 1; or 0
 unfoldable pub latest : (ℕ → ℕ) → ℕ → ℕ → ℕ

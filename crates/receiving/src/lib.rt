@@ -5,19 +5,13 @@
 // time is linear in them, where the buckets of equal records are even; nothing is kept but in the work space.
 #![tactic(auto)]
 
-ghost use Rattle.std.specs.Prelude.{◌≡◌, ◌+◌, ◌*◌, ◌≤◌, true, ◌↔◌, List, length};
-ghost use Rattle.ledger.specs.declared.Vertex.{Vertex as Row};
-ghost use Rattle.ledger.specs.Diagrams.{Formed, Sound};
+ghost use Rattle.std.specs.Prelude.{◌≡◌, ◌+◌, ◌*◌, ◌≤◌, true, ◌↔◌, length};
+ghost use Rattle.ledger.specs.Diagrams.{Sound};
 ghost use Rattle.ledger.specs.Ledger.{codes};
-ghost use Rattle.wire.specs.Records.{travel};
-ghost use Rattle.receiving.specs.Reads.{ReadAs};
 ghost use Rattle.receiving.specs.Receives.{Ends, InOrder, Receives};
 
-use crate::apart::all_apart;
-use crate::checks::{check_records, read_head};
-use crate::laying::lay_down;
-use crate::lengths::too_long;
-use crate::visiting::in_order;
+use crate::checks::read_head;
+use crate::records::Records;
 use memory::shelf::Shelf;
 use memory::work::Place;
 use symbols::{Symbol, WireSymbol};
@@ -28,52 +22,40 @@ mod checks;
 pub mod inverse;
 mod laying;
 mod lengths;
-mod reading;
+mod records;
 mod visiting;
 
-// Whether the records are those that writing the root's list gives: the root is one of them or a terminal, they stand in
-// the order of laying down, and no two are equal.
-fn as_written<S: WireSymbol>(records: &[u8], count: u32, root: u32, work: &mut [Place]) -> bool
-    requires long { length records.now ≤ 16000000 }
-    requires few { count ≤ 1000000 }
-    requires room { 2 * count + 256 ≤ length work.old }
-    ensures good { result ≡ true → root ≤ count + 1 }
-    ensures answer { (ds : List (Row S)) → ReadAs S.WireSymbol.travel records.now ds → length ds ≡ count → (result ≡ true) ↔ InOrder S.Symbol.before ds root }
-{
-    if root > count + 1 {
-        return false;
+impl<'a, S: WireSymbol> Records<'a, S> {
+    // Whether the records are those that writing the root's list gives: the root is one of them or a terminal, they stand
+    // in the order of laying down, and no two are equal.
+    fn as_written(&self, root: u32, work: &mut [Place]) -> bool
+        requires { 2 * length self.now + 256 ≤ length work.old }
+        ensures { (result ≡ true) ↔ InOrder S.Symbol.before self.now root }
+    {
+        let count = self.count();
+        root <= count + 1 && self.passed_from(root, work) == Some(count) && self.all_apart(work)
     }
-    if !in_order::<S>(records, count, root, work) {
-        return false;
-    }
-    all_apart::<S>(records, count, work)
-}
 
-// Lays the root's list of checked records down, unless they are not as written or a code is too long.
-fn lay_checked<S: WireSymbol, B: Shelf<S>>(
-    shelf: &mut B,
-    records: &[u8],
-    count: u32,
-    root: u32,
-    work: &mut [Place],
-) -> Result<u32, ReceiveFault>
-    requires long { length records.now ≤ 16000000 }
-    requires few { count ≤ 1000000 }
-    requires room { 2 * count + 256 ≤ length work.old }
-    ensures answer { B.Shelf.ready shelf.old → (ds : List (Row S)) → ReadAs S.WireSymbol.travel records.now ds → Formed S.Symbol.before ds → length ds ≡ count →
-        Sound S.Symbol.before (B.Shelf.vertices shelf.old) → Ends S.Symbol.before (B.Shelf.capacity shelf.old) (B.Shelf.vertices shelf.old) (InOrder S.Symbol.before ds root) (codes ds root) result (B.Shelf.vertices shelf.new) }
-    ensures ready { B.Shelf.ready shelf.old → B.Shelf.ready shelf.new }
-    ensures size { B.Shelf.capacity shelf.new ≡ B.Shelf.capacity shelf.old }
-{
-    if !as_written::<S>(records, count, root, work) {
-        return Err(ReceiveFault::NotAsWritten);
-    }
-    if too_long::<S>(records, count, root, work) {
-        return Err(ReceiveFault::CodeTooLong);
-    }
-    match lay_down(shelf, records, count, root, work) {
-        Ok(n) => Ok(n),
-        Err(_) => Err(ReceiveFault::ShelfFull),
+    // Lays the root's list down, unless the records are not as written or a code is too long.
+    fn lay_checked<B: Shelf<S>>(
+        &self,
+        shelf: &mut B,
+        root: u32,
+        work: &mut [Place],
+    ) -> Result<u32, ReceiveFault>
+        requires { 2 * length self.now + 256 ≤ length work.old }
+        ensures answer { B.Shelf.ready shelf.old → Sound S.Symbol.before (B.Shelf.vertices shelf.old) →
+            Ends S.Symbol.before (B.Shelf.capacity shelf.old) (B.Shelf.vertices shelf.old) (InOrder S.Symbol.before self.now root) (codes self.now root) result (B.Shelf.vertices shelf.new) }
+        ensures ready { B.Shelf.ready shelf.old → B.Shelf.ready shelf.new }
+        ensures size { B.Shelf.capacity shelf.new ≡ B.Shelf.capacity shelf.old }
+    {
+        if !self.as_written(root, work) {
+            return Err(ReceiveFault::NotAsWritten);
+        }
+        if self.too_long(root, work) {
+            return Err(ReceiveFault::CodeTooLong);
+        }
+        Ok(self.lay_down(shelf, root, work)?)
     }
 }
 
@@ -88,7 +70,7 @@ pub fn receive<S: WireSymbol, B: Shelf<S>>(
     ensures ready { B.Shelf.ready shelf.old → B.Shelf.ready shelf.new }
     ensures size { B.Shelf.capacity shelf.new ≡ B.Shelf.capacity shelf.old }
 {
-    let (head, records) = read_head::<S>(bytes, shelf.capacity())?;
-    check_records::<S>(records, head.count)?;
-    lay_checked(shelf, records, head.count, head.root, work)
+    let (head, rest) = read_head::<S>(bytes, shelf.capacity())?;
+    let records = Records::<S>::checked(rest, head.count)?;
+    records.lay_checked(shelf, head.root, work)
 }
