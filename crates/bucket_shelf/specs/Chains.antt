@@ -1,11 +1,8 @@
 -- Records in chains, one chain for each head. Chains go down, from the highest vertex of a bucket to the lowest.
-use Rattle.std.specs.Prelude.{◌≡◌, ℕ, ◌-◌, ◌<◌, ◌≤◌, min, true, false, cond, List, map, length, take, Some, None, Option, ◌==◌, slice_index}
-use Rattle.std.proofs.Common.{arith}
+use Rattle.std.specs.Prelude.{◌≡◌, ℕ, ◌-◌, ◌<◌, ◌≤◌, min, true, false, cond, List, map, length, take, Some, ◌==◌, slice_index}
+use Rattle.std.proofs.Common.{length-take, arith}
 use Rattle.std.specs.List.{slice_get}
 use Rattle.ledger.specs.declared.Vertex.{Vertex}
-use Rattle.ledger.specs.Gather.{gather, Gatherable}
-use Rattle.memory.specs.declared.work.Place.{Place}
-use Rattle.memory.specs.Shelves.{marks_in, Renumbered}
 use Rattle.bucket_shelf.specs.declared.Entry.{Entry}
 use Rattle.memory.specs.Buckets.{bucket}
 
@@ -19,10 +16,6 @@ vertices_in es = map vertex_of es
 abbrev pub room : {S : Type 0} → List (Entry S) → List ℕ → ℕ
 room es hs = cond (length hs == 0) 0 (min (length es) 1000000)
 
--- the vertices of a shelf that has so many in use
-abbrev pub shelved : {S : Type 0} → ℕ → List (Entry S) → List ℕ → List (Vertex S)
-shelved used es hs = take (min used (room es hs)) (vertices_in es)
-
 -- t is one more than the highest index below u of a vertex in bucket b, or 0 where there is none
 pub record Top {S : Type 0} (in_bucket : Vertex S → ℕ) (vs : List (Vertex S)) (u b t : ℕ) : Type 0 where
   pub below : t ≤ u
@@ -35,17 +28,13 @@ pub record Chained {S : Type 0} (scatter : S → ℕ) (es : List (Entry S)) (hs 
   pub nexts : (j : ℕ) (e : Entry S) → j < u → slice_get es j ≡ Some e →
       Top (bucket scatter (length hs)) (vertices_in es) j (bucket scatter (length hs) e.vertex) e.next
 
-pub room_under : (h l : ℕ) → (cond (h == 0) 0 (min l 1000000) ≤ l) × (cond (h == 0) 0 (min l 1000000) ≤ 1000000)
-room_under h l =
-    elim (h == 0) as (λ b. (cond b 0 (min l 1000000) ≤ l) × (cond b 0 (min l 1000000) ≤ 1000000)) [
+-- whether there are heads or none, there is a record for each vertex
+pub room_records : {S : Type 0} (es : List (Entry S)) (hs : List ℕ) → (room es hs ≤ length es) × (room es hs ≤ 1000000)
+room_records es hs =
+    elim (length hs == 0) as (λ b. (cond b 0 (min (length es) 1000000) ≤ length es) × (cond b 0 (min (length es) 1000000) ≤ 1000000)) [
       | true ↦ (omega arith, omega arith)
       | false ↦ (omega arith, omega arith)
     ]
 
--- the first u records become the marked ones, k many, in chains of their own, and each place has its vertex's new
--- number; or the marks do not fit, and nothing changes
-abbrev pub Gathers : {S : Type 0} → (S → ℕ) → ℕ → List Place → List (Entry S) → List ℕ → Option ℕ → List Place → List (Entry S) → List ℕ → Type 0
-Gathers scatter u ps es hs None qs es' hs' = (Gatherable (marks_in ps) (take u (vertices_in es)) → ⊥) × (es' ≡ es) × (hs' ≡ hs) × (qs ≡ ps)
-Gathers scatter u ps es hs (Some k) qs es' hs' =
-    Gatherable (marks_in ps) (take u (vertices_in es)) × (k ≤ u) × (take k (vertices_in es') ≡ gather (marks_in ps) (take u (vertices_in es))) ×
-    Renumbered ps qs × Chained scatter es' hs' k
+pub room_bounds : {S : Type 0} (used : ℕ) (es : List (Entry S)) (hs : List ℕ) → used ≤ room es hs → (length (take used (vertices_in es)) ≤ room es hs) × (room es hs ≤ 1000000)
+room_bounds used es hs h = (omega (arith, length-take used (vertices_in es)), (room_records es hs).1)

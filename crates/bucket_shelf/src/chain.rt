@@ -1,86 +1,39 @@
-// Walks over records and heads. Each ends on any memory: a step goes down, whatever `next` says.
-ghost use Rattle.std.specs.Prelude.{◌≡◌, ℕ, ◌+◌, ◌-◌, ◌<◌, ◌≤◌, min, ◌≢◌, ◌⊎◌, length, take, if◌then◌else◌, Some, nat_eq, slice_index, slice_index_or, slice_set};
-ghost use Rattle.std.specs.Option.{option_map};
-ghost use Rattle.ledger.specs.Diagrams.{look, parts};
+// Chains over records and heads. Each walk ends on any memory: a step goes down, whatever `next` says.
+ghost use Rattle.std.specs.Prelude.{◌≡◌, ◌+◌, ◌<◌, ◌≤◌, min, map, length, take, slice_set};
+ghost use Rattle.ledger.specs.Gather.{keep};
 ghost use Rattle.ledger.specs.Laid.{First};
 ghost use Rattle.memory.specs.Buckets.{bucket};
-ghost use Rattle.bucket_shelf.specs.Chains.{vertices_in, Chained};
+ghost use Rattle.memory.specs.Marks.{noted_vertex};
+ghost use Rattle.memory.specs.Shelves.{marks_in};
+ghost use Rattle.bucket_shelf.specs.Chains.{vertices_in, room, Chained};
 
-use crate::Entry;
+use crate::{BucketShelf, Entry};
 use ledger::Vertex;
 use memory::buckets::bucket;
+use memory::marks::{is_marked, new_vertex};
 use memory::reading::same_vertex;
+use memory::work::Place;
 use symbols::Symbol;
 
-// How many vertices there may be over so many records and heads.
-pub(crate) fn capacity(records: usize, heads: usize) -> u32
-    ensures { result ≡ (if nat_eq heads 0 then 0 else min records 1000000) }
-{
-    if heads == 0 {
-        0
-    } else {
-        records.min(1_000_000) as u32
-    }
-}
-
-pub(crate) fn entry_at<S: Symbol>(records: &[Entry<S>], i: u32) -> Entry<S>
-    requires { i < length records.now }
-    ensures { result ≡ slice_index_or records.now i result }
-{
-    records[i as usize]
-}
-
-pub(crate) fn look<S: Symbol>(records: &[Entry<S>], used: u32, n: u32) -> Option<(S, u32, u32)>
-    requires { (used ≤ length records.now) × (used ≤ 1000000) }
-    ensures { result ≡ option_map parts (look (take used (vertices_in records.now)) n) }
-{
-    if n < 2 {
-        return None;
-    }
-    if n - 2 >= used {
-        return None;
-    }
-    let entry = entry_at(records, n - 2);
-    Some((entry.vertex.label, entry.vertex.zero, entry.vertex.one))
-}
-
-// What is found once the entry at index `top - 1` is passed: its number, if its vertex is the wanted one.
-fn passed<S: Symbol>(
-    found: Option<u32>,
-    top: u32,
-    entry: Entry<S>,
-    wanted: Vertex<S>,
-) -> Option<u32>
-    requires { top ≤ 1000000 }
-    ensures { ((entry.vertex ≡ wanted) × (result ≡ Some (top + 1))) ⊎ ((entry.vertex ≢ wanted) × (result ≡ found)) }
-{
-    if same_vertex(entry.vertex, wanted) {
-        Some(top + 1)
-    } else {
+impl<S: Symbol> BucketShelf<'_, S> {
+    // The lowest number of a vertex, by a walk down the chain of its bucket `at`. Equal vertices may stand in it more
+    // than once, so the walk goes to the end.
+    pub(crate) fn find_in(&self, at: usize, wanted: Vertex<S>) -> Option<u32>
+        requires there { at < length self.now.heads.now }
+        requires bucket { at ≡ bucket S.Symbol.scatter (length self.now.heads.now) wanted }
+        ensures { Chained S.Symbol.scatter self.now.records.now self.now.heads.now self.now.used → First (take self.now.used (vertices_in self.now.records.now)) wanted result }
+    {
+        let mut found = None;
+        let mut top = self.heads[at].min(self.used);
+        while top > 0 {
+            let entry = self.records[(top - 1) as usize];
+            if same_vertex(entry.vertex, wanted) {
+                found = Some(top + 1);
+            }
+            top = entry.next.min(top - 1);
+        }
         found
     }
-}
-
-// The lowest number of a vertex, by a walk down its bucket's chain. Equal vertices may stand in it more than once, so
-// the walk goes to the end.
-pub(crate) fn find<S: Symbol>(
-    records: &[Entry<S>],
-    heads: &[u32],
-    used: u32,
-    at: usize,
-    vertex: Vertex<S>,
-) -> Option<u32>
-    requires { (used ≤ length records.now) × ((used ≤ 1000000) × (at < length heads.now)) }
-    ensures { at ≡ bucket S.Symbol.scatter (length heads.now) vertex → Chained S.Symbol.scatter records.now heads.now used → First (take used (vertices_in records.now)) vertex result }
-{
-    let mut found = None;
-    let mut top = heads[at].min(used);
-    while top > 0 {
-        let entry = entry_at(records, top - 1);
-        found = passed(found, top, entry, vertex);
-        top = entry.next.min(top - 1);
-    }
-    found
 }
 
 // One vertex more, at index `i`, at the top of its bucket's chain.
@@ -91,54 +44,51 @@ pub(crate) fn link<S: Symbol>(
     at: usize,
     vertex: Vertex<S>,
 )
-    requires { (i < length records.old) × ((i < 1000000) × (at < length heads.old)) }
+    requires index { i < room records.old heads.old }
+    requires there { at < length heads.old }
+    requires bucket { at ≡ bucket S.Symbol.scatter (length heads.old) vertex }
     ensures vertices { vertices_in records.new ≡ slice_set (vertices_in records.old) i vertex }
-    ensures ready { at ≡ bucket S.Symbol.scatter (length heads.old) vertex → Chained S.Symbol.scatter records.old heads.old i → Chained S.Symbol.scatter records.new heads.new (i + 1) }
+    ensures ready { Chained S.Symbol.scatter records.old heads.old i → Chained S.Symbol.scatter records.new heads.new (i + 1) }
 {
     let next = heads[at];
     records[i as usize] = Entry { vertex, next };
     heads[at] = i + 1;
 }
 
-// Sets every head to nothing.
-pub(crate) fn clear(heads: &mut [u32])
-    ensures { (b : ℕ) → slice_index heads.new b ≡ 0 }
-{
-    for head in heads.iter_mut() {
-        *head = 0;
-    }
-}
-
-// Takes an entry off the top of its chain.
-fn drop_top<S: Symbol>(heads: &mut [u32], entry: Entry<S>)
-    requires { 0 < length heads.old }
-    ensures { heads.new ≡ slice_set heads.old (bucket S.Symbol.scatter (length heads.old) entry.vertex) entry.next }
-{
-    let at = bucket(entry.vertex, heads.len());
-    heads[at] = entry.next;
-}
-
 // Takes the vertices from index `n` on out of their chains, the last first: each is then at the top of its chain.
 pub(crate) fn unlink<S: Symbol>(records: &[Entry<S>], heads: &mut [u32], used: u32, n: u32)
-    requires { (used ≤ length records.now) × ((used ≤ 1000000) × ((0 < used → 0 < length heads.old))) }
+    requires { used ≤ room records.now heads.old }
     ensures { Chained S.Symbol.scatter records.now heads.old used → Chained S.Symbol.scatter records.now heads.new (min used n) }
 {
-    let mut top = used;
-    while top > n {
-        drop_top(heads, entry_at(records, top - 1));
-        top -= 1;
+    for i in (n..used).rev() {
+        let entry = records[i as usize];
+        let at = bucket(entry.vertex, heads.len());
+        heads[at] = entry.next;
     }
 }
 
-// Leaves the first `n` vertices in the chains. To leave none clears every head, whatever lay there: so a shelf begins.
-pub(crate) fn cut<S: Symbol>(records: &[Entry<S>], heads: &mut [u32], used: u32, n: u32)
-    requires { (used ≤ length records.now) × ((used ≤ 1000000) × ((0 < used → 0 < length heads.old))) }
-    ensures ready { Chained S.Symbol.scatter records.now heads.old used → Chained S.Symbol.scatter records.now heads.new (min used n) }
-    ensures anew { n ≡ 0 → Chained S.Symbol.scatter records.now heads.new 0 }
+// Moves the marked vertices to the front, in chains that begin anew, and says how many there are.
+pub(crate) fn keep<S: Symbol>(
+    records: &mut [Entry<S>],
+    heads: &mut [u32],
+    used: u32,
+    marks: &[Place],
+) -> u32
+    requires used { used ≤ room records.old heads.old }
+    requires marks { length marks.now ≡ used }
+    ensures few { result ≤ used }
+    ensures vertices { take result (vertices_in records.new) ≡ map (noted_vertex marks.now) (keep (marks_in marks.now) (take used (vertices_in records.old))) }
+    ensures ready { Chained S.Symbol.scatter records.new heads.new result }
 {
-    if n == 0 {
-        clear(heads);
-        return;
+    heads.fill(0);
+    let mut to: u32 = 0;
+    // By index: it reads and writes one run.
+    for i in 0..used {
+        if is_marked(marks, i + 2) {
+            let kept = new_vertex(marks, records[i as usize].vertex);
+            link(records, heads, to, bucket(kept, heads.len()), kept);
+            to += 1;
+        }
     }
-    unlink(records, heads, used, n);
+    to
 }

@@ -6,22 +6,20 @@
 // heads as vertices; a cut is what it cuts, but to 0 it is the heads; to gather is the vertices and the heads.
 #![tactic(auto)]
 
-ghost use Rattle.std.specs.Prelude.{◌≡◌, ◌+◌, ◌<◌, min, true, ◌↔◌, [], length, take, if◌then◌else◌, Ok};
-ghost use Rattle.ledger.specs.Gather.{gather, Gatherable};
-ghost use Rattle.memory.specs.Shelves.{Appends, FoundOrAppended, marks_in, Renumbered};
+ghost use Rattle.std.specs.Prelude.{◌≡◌, ◌<◌, ◌≤◌, [], length, take, MatchOption};
+ghost use Rattle.ledger.specs.declared.Vertex.{Vertex};
 ghost use Rattle.memory.specs.Buckets.{bucket};
-ghost use Rattle.bucket_shelf.specs.Shelves.{records_of, heads_of, room_of, vertices_of, Ready, bounds_of};
+ghost use Rattle.memory.specs.Shelves.{Appends};
+ghost use Rattle.bucket_shelf.specs.Chains.{room, room_bounds, vertices_in, Chained};
 
-use crate::lent::{Heads, Records};
 use ledger::Vertex;
 use memory::buckets::bucket;
+use memory::records::{self, Record};
 use memory::shelf::{Full, Shelf};
 use memory::work::Place;
 use symbols::Symbol;
 
 mod chain;
-mod gather;
-mod lent;
 
 // A vertex in its bucket's chain: `next` is one more than the index of the next lower vertex of the bucket, or 0.
 #[derive(Clone, Copy)]
@@ -30,162 +28,133 @@ pub struct Entry<S> {
     pub next: u32,
 }
 
-// The first `used` records hold the vertices, as far as the capacity goes.
+impl<S: Symbol> Record<S> for Entry<S> {
+    ghost vertex = { λ e. e.vertex };
+
+    fn vertex(self) -> Vertex<S> {
+        self.vertex
+    }
+}
+
+// The first `used` records hold the vertices.
 #[derive(Drop)]
 pub struct BucketShelf<'a, S> {
-    records: Records<'a, S>,
-    heads: Heads<'a>,
+    records: &'a mut [Entry<S>],
+    heads: &'a mut [u32],
     used: u32,
+    ghost within: { used ≤ room records.now heads.now },
 }
 
 impl<'a, S: Symbol> BucketShelf<'a, S> {
     // An empty shelf over this memory, whatever it holds; a cut to 0 makes it ready.
     pub fn new(records: &'a mut [Entry<S>], heads: &'a mut [u32]) -> BucketShelf<'a, S>
-        ensures vertices { vertices_of result ≡ [] }
-        ensures records { records_of result ≡ records.old }
-        ensures heads { heads_of result ≡ heads.old }
+        ensures vertices { take result.used (vertices_in result.records.now) ≡ [] }
+        ensures records { result.records.now ≡ records.old }
+        ensures heads { result.heads.now ≡ heads.old }
     {
         BucketShelf {
-            records: Records { at: records },
-            heads: Heads { at: heads },
+            records,
+            heads,
             used: 0,
         }
     }
 
-    // How many vertices there may be.
-    fn room(&self) -> u32
-        ensures { result ≡ room_of self.now }
+    // The records that hold vertices.
+    fn entries(&self) -> &[Entry<S>]
+        ensures { result.now ≡ take self.now.used self.now.records.now }
     {
-        chain::capacity(self.records.at.len(), self.heads.at.len())
+        &self.records[..self.used as usize]
     }
 
-    // How many records hold vertices.
-    fn in_use(&self) -> u32
-        ensures value { result ≡ min self.now.used (room_of self.now) }
-        ensures count { result ≡ length (vertices_of self.now) }
+    // The bucket of a vertex; none without heads.
+    fn bucket_of(&self, vertex: Vertex<S>) -> Option<usize>
+        ensures { MatchOption result (length self.now.heads.now ≡ 0) (λ at. (at < length self.now.heads.now) × (at ≡ bucket S.Symbol.scatter (length self.now.heads.now) vertex)) }
     {
-        self.used.min(self.room())
-    }
-
-    // One vertex more, in bucket `at`.
-    fn push(&mut self, at: usize, vertex: Vertex<S>) -> u32
-        requires { (length (vertices_of self.old) < room_of self.old) × (at < length (heads_of self.old)) }
-        ensures answer { Appends (room_of self.old) (vertices_of self.old) vertex (Ok result) (vertices_of self.new) }
-        ensures ready { at ≡ bucket S.Symbol.scatter (length (heads_of self.old)) vertex → Ready S.Symbol.scatter self.old → Ready S.Symbol.scatter self.new }
-        ensures size { room_of self.new ≡ room_of self.old }
-    {
-        let used = self.in_use();
-        lent::link(&mut self.records, &mut self.heads, used, at, vertex);
-        self.used = used + 1;
-        used + 2
-    }
-
-    // The number of this vertex, found in bucket `at` or put there.
-    fn find_or_push(&mut self, at: usize, vertex: Vertex<S>) -> Result<u32, Full>
-        requires { at < length (heads_of self.old) }
-        ensures answer { at ≡ bucket S.Symbol.scatter (length (heads_of self.old)) vertex → Ready S.Symbol.scatter self.old → FoundOrAppended (room_of self.old) (vertices_of self.old) vertex result (vertices_of self.new) }
-        ensures ready { at ≡ bucket S.Symbol.scatter (length (heads_of self.old)) vertex → Ready S.Symbol.scatter self.old → Ready S.Symbol.scatter self.new }
-        ensures size { room_of self.new ≡ room_of self.old }
-    {
-        let used = self.in_use();
-        match lent::find(&self.records, &self.heads, used, at, vertex) {
-            Some(n) => Ok(n),
-            None => {
-                if used >= self.room() {
-                    return Err(Full);
-                }
-                Ok(self.push(at, vertex))
-            }
+        if self.heads.is_empty() {
+            return None;
         }
+        Some(bucket(vertex, self.heads.len()))
     }
 
-    // The first n vertices stay, and the chains lose the others.
-    fn keep_first(&mut self, n: u32)
-        ensures vertices { vertices_of self.new ≡ take n (vertices_of self.old) }
-        ensures ready { Ready S.Symbol.scatter self.old → Ready S.Symbol.scatter self.new }
-        ensures anew { n ≡ 0 → Ready S.Symbol.scatter self.new }
-        ensures size { room_of self.new ≡ room_of self.old }
+    // One vertex more, in its bucket `at`.
+    fn push(&mut self, at: usize, vertex: Vertex<S>) -> Result<u32, Full>
+        requires there { at < length self.old.heads.now }
+        requires bucket { at ≡ bucket S.Symbol.scatter (length self.old.heads.now) vertex }
+        ensures answer { Appends (room self.old.records.now self.old.heads.now) (take self.old.used (vertices_in self.old.records.now)) vertex result (take self.new.used (vertices_in self.new.records.now)) }
+        ensures ready { Chained S.Symbol.scatter self.old.records.now self.old.heads.now self.old.used → Chained S.Symbol.scatter self.new.records.now self.new.heads.now self.new.used }
+        ensures size { room self.new.records.now self.new.heads.now ≡ room self.old.records.now self.old.heads.now }
     {
-        let used = self.in_use();
-        lent::cut(&self.records, &mut self.heads, used, n);
-        self.used = used.min(n);
-    }
-
-    // The marked vertices stay, renumbered, in chains built anew.
-    fn keep_marked(&mut self, marks: &mut [Place]) -> bool
-        ensures answer { (result ≡ true) ↔ Gatherable (marks_in marks.old) (vertices_of self.old) }
-        ensures vertices { vertices_of self.new ≡ (if result then gather (marks_in marks.old) (vertices_of self.old) else vertices_of self.old) }
-        ensures numbers { result ≡ true → Renumbered marks.old marks.new }
-        ensures ready { Ready S.Symbol.scatter self.old → Ready S.Symbol.scatter self.new }
-        ensures size { room_of self.new ≡ room_of self.old }
-    {
-        let used = self.in_use();
-        match lent::gather(&mut self.records, &mut self.heads, used, marks) {
-            Some(kept) => {
-                self.used = kept;
-                true
-            }
-            None => false,
+        if self.used >= self.capacity() {
+            return Err(Full);
         }
+        chain::link(self.records, self.heads, self.used, at, vertex);
+        self.used += 1;
+        Ok(self.used + 1)
     }
 }
 
 impl<'a, S: Symbol> Shelf<S> for BucketShelf<'a, S> {
-    ghost vertices = { λ s. vertices_of s };
+    ghost vertices = { λ s. take s.used (vertices_in s.records.now) };
 
-    ghost capacity = { λ s. room_of s };
+    ghost capacity = { λ s. room s.records.now s.heads.now };
 
-    ghost ready = { λ s. Ready S.Symbol.scatter s };
+    ghost ready = { λ s. Chained S.Symbol.scatter s.records.now s.heads.now s.used };
 
-    ghost bounds = { λ s. bounds_of s };
+    ghost bounds = { λ s. room_bounds s.used s.records.now s.heads.now s.within };
 
     fn capacity(&self) -> u32 {
-        self.room()
+        if self.heads.is_empty() {
+            return 0;
+        }
+        records::capacity(self.records.len())
     }
 
     fn used(&self) -> u32 {
-        self.in_use()
+        self.used
     }
 
     fn look(&self, n: u32) -> Option<(S, u32, u32)> {
-        let used = self.in_use();
-        chain::look(self.records.at, used, n)
+        records::look(self.entries(), n)
     }
 
     fn find(&self, label: S, zero: u32, one: u32) -> Option<u32> {
-        if self.heads.at.len() == 0 {
-            return None;
-        }
-        let used = self.in_use();
         let vertex = Vertex { label, zero, one };
-        let at = bucket(vertex, self.heads.at.len());
-        chain::find(self.records.at, self.heads.at, used, at, vertex)
+        let at = self.bucket_of(vertex)?;
+        self.find_in(at, vertex)
     }
 
     fn append(&mut self, label: S, zero: u32, one: u32) -> Result<u32, Full> {
-        if self.in_use() >= self.room() {
-            return Err(Full);
-        }
         let vertex = Vertex { label, zero, one };
-        let at = bucket(vertex, self.heads.at.len());
-        Ok(self.push(at, vertex))
+        let at = self.bucket_of(vertex).ok_or(Full)?;
+        self.push(at, vertex)
     }
 
     // The bucket is computed once, for the search and for what follows it.
     fn find_or_append(&mut self, label: S, zero: u32, one: u32) -> Result<u32, Full> {
-        if self.heads.at.len() == 0 {
-            return Err(Full);
-        }
         let vertex = Vertex { label, zero, one };
-        let at = bucket(vertex, self.heads.at.len());
-        self.find_or_push(at, vertex)
+        let at = self.bucket_of(vertex).ok_or(Full)?;
+        match self.find_in(at, vertex) {
+            Some(n) => Ok(n),
+            None => self.push(at, vertex),
+        }
     }
 
+    // To leave no vertex clears every head, whatever lay there: so a shelf begins.
     fn cut(&mut self, n: u32) {
-        self.keep_first(n)
+        if n == 0 {
+            self.heads.fill(0);
+        } else {
+            let records = &mut *self.records;
+            chain::unlink(records, self.heads, self.used, n);
+        }
+        self.used = self.used.min(n);
     }
 
     fn gather(&mut self, marks: &mut [Place]) -> bool {
-        self.keep_marked(marks)
+        if !records::number_vertices(self.entries(), marks) {
+            return false;
+        }
+        self.used = chain::keep(self.records, self.heads, self.used, marks);
+        true
     }
 }

@@ -1,25 +1,23 @@
-use Rattle.std.proofs.Common.{◌≡◌, ◌+◌, ◌<◌, false, List, map, length, get_or, take, sym, ap, ◌∙◌, subst, arith}
+use Rattle.std.proofs.Common.{◌≡◌, ◌+◌, ◌<◌, false, List, map, length, get_or, take, set, sym, ap, ◌∙◌, subst, replicate, rules, arith}
 use Rattle.std.proofs.lemmas.List.{length-map}
 use Rattle.ledger.specs.declared.Vertex.{Vertex}
 use Rattle.ledger.specs.Gather.{keep}
 use Rattle.memory.specs.Marks.{noted_vertex}
 use Rattle.memory.specs.Shelves.{is_mark, marks_in}
 use Rattle.memory.proofs.Gathers.{mark_here}
-use Rattle.bucket_shelf.specs.Chains.{vertices_in}
-use Rattle.bucket_shelf.proofs.Indices.{length_vertices, get_or_vertices}
-use Rattle.bucket_shelf.proofs.Chaining.{chained_none}
 use Rattle.memory.proofs.Keeping.{Keeps, keeps_none, keeps_no, keeps_yes, keeps_all}
-use Rattle.bucket_shelf.proofs.gather.keep.Goals as goal
-use Rattle.bucket_shelf.proofs.gather.keep.Goals.{then-is_marked, else-is_marked}
+use Rattle.bucket_shelf.specs.Chains.{vertices_in, room_records}
+use Rattle.bucket_shelf.proofs.Indices.{length_vertices, get_or_vertices}
+use Rattle.bucket_shelf.proofs.Chaining.{chained_none, none_at}
+use Rattle.bucket_shelf.proofs.chain.keep.Goals as goal
+use Rattle.bucket_shelf.proofs.chain.keep.Goals.{then-is_marked, else-is_marked}
 
 pub loop-i-init : goal.loop-i-init
-loop-i-init g c = (
-  keeps_none (noted_vertex c.args.marks.now) (marks_in c.args.marks.now) (vertices_in c.args.records.now),
-  chained_none g.S.Symbol.scatter c.args.records.now c.clear.new.heads c.clear.ensures,
-)
-
-pub keep_vertex-requires : goal.keep_vertex-requires
-keep_vertex-requires g c = (omega (arith, c.loop-i.invariant.0.behind), (omega (arith, c.loop-i.invariant.0.behind), omega arith))
+loop-i-init g c =
+    let empty : c.fill.new.self ≡ replicate (length c.args.heads.now) 0 = c.fill.ensures.after (search rules) in (
+      keeps_none (noted_vertex c.args.marks.now) (marks_in c.args.marks.now) (vertices_in c.args.records.now),
+      chained_none g.S.Symbol.scatter c.args.records.now c.fill.new.self (λ b. ap (λ hs. get_or hs b 0) empty ∙ none_at (length c.args.heads.now) b),
+    )
 
 pub loop-i-preserved : goal.loop-i-preserved
 loop-i-preserved g c =
@@ -31,17 +29,18 @@ loop-i-preserved g c =
     let to = c.loop-i.to in
     let i = c.loop-i.i in
     let in_marks : i < length ms = omega (arith, length-map ps is_mark) in
-    let in_records : i < length xs = omega (arith, length_vertices c.args.records.now) in
+    let in_records : i < length xs = omega (arith, length_vertices c.args.records.now, room_records c.args.records.now c.args.heads.now) in
     let marked : get_or ms i false ≡ c.is_marked.result = mark_here ms i c.is_marked.result c.is_marked.ensures in
     elim c.if-is_marked.branch [
       | then-is_marked w ↦
-          let v = w.entry_at-entry.result.vertex in
+          let e = w.index-records-i.result in
           let P : List (Vertex g.row.S.Denot) → Type 0 = λ ys. Keeps f ms xs ys (to + 1) (i + 1) in
+          let kept : w.new_vertex-kept.result ≡ f e.vertex = cc in
+          let there = get_or_vertices es i e (omega (arith, length_vertices c.args.records.now)) w.index-records-i.is in
           rw (w.records-is, w.to-is, w.heads-is) (
-            subst P (sym w.keep_vertex.ensures.vertices)
-                (keeps_yes f ms xs (vertices_in es) to i v in_marks in_records (marked ∙ w.if-is_marked.true)
-                (get_or_vertices es i w.entry_at-entry.result (omega arith) w.entry_at-entry.ensures) c.loop-i.invariant.0),
-            w.keep_vertex.ensures.ready c.loop-i.invariant.1,
+            subst P (sym (w.link.ensures.vertices ∙ ap (set (vertices_in es) to) kept))
+                (keeps_yes f ms xs (vertices_in es) to i e.vertex in_marks in_records (marked ∙ w.if-is_marked.true) there c.loop-i.invariant.0),
+            w.link.ensures.ready c.loop-i.invariant.1,
           )
       | else-is_marked w ↦
           rw (w.records-is, w.to-is, w.heads-is) (

@@ -1,8 +1,8 @@
 use Rattle.memory.specs.Marks.{noted_vertex}
 use Rattle.memory.specs.Shelves.{marks_in}
-use Rattle.bucket_shelf.specs.Chains.{vertices_in, Chained}
 use Rattle.memory.proofs.Keeping.{Keeps}
-use Rattle.bucket_shelf.proofs.gather.keep.Given as goal
+use Rattle.bucket_shelf.specs.Chains.{vertices_in, Chained}
+use Rattle.bucket_shelf.proofs.chain.keep.Given as goal
 
 abbrev pub invariant-loop-i : goal.invariant-loop-i
 invariant-loop-i g l =
