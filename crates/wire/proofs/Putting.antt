@@ -1,8 +1,30 @@
--- A record written in two parts.
-use Rattle.std.proofs.Common.{◌≡◌, ℕ, ◌+◌, ◌-◌, List, [], ◌++◌, length, take, drop, sym, ap, ◌∙◌, append_assoc, append-nil, arith, length-drop, take_all, drop-drop, take_at, drop_at}
+-- A head and a record, written part by part.
+use Rattle.std.proofs.Common.{◌≡◌, ℕ, ◌+◌, ◌-◌, List, [], ◌∷◌, ◌++◌, length, take, drop, sym, refl, ap, ◌∙◌, append_assoc, append-nil, arith, length-drop, take_all, drop-drop, take_at, drop_at}
 use borrow.Rule.Slice.PartMut.{put_mid}
 use Rattle.std.proofs.lemmas.List.{drop_all}
 use Rattle.ledger.specs.Dispatch.{be4}
+use Rattle.wire.specs.Heads.{head_bytes}
+use Rattle.wire.specs.declared.head.Head.{Head}
+
+-- a part written right behind those before it
+next_part : (front part out : List ℕ) (a n : ℕ) → length front ≡ a → put_mid a n (front ++ drop a out) part ≡ (front ++ part) ++ drop (a + n) out
+next_part front part out a n l =
+    let first : take a (front ++ drop a out) ≡ front = take_at front (drop a out) a l in
+    let rest : drop n (drop a (front ++ drop a out)) ≡ drop (a + n) out = ap (drop n) (drop_at front (drop a out) a l) ∙ drop-drop n a out in
+    (λ i. first i ++ (part ++ rest i)) ∙ sym (append_assoc front part (drop (a + n) out))
+
+-- a head
+pub headed : (head : Head) (whole kinds count root out : List ℕ) → whole ≡ be4 head.whole → kinds ≡ head.version ∷ head.kind ∷ [] → count ≡ be4 head.count → root ≡ be4 head.root →
+    put_mid 10 4 (put_mid 6 4 (put_mid 4 2 (whole ++ drop 4 out) kinds) count) root ≡ head_bytes head ++ drop 14 out
+headed head whole kinds count root out w k c r =
+    let first = be4 head.whole in
+    let second = head.version ∷ head.kind ∷ [] in
+    let third = be4 head.count in
+    let last = be4 head.root in
+    (λ i. put_mid 10 4 (put_mid 6 4 (put_mid 4 2 (w i ++ drop 4 out) (k i)) (c i)) (r i)) ∙
+    ap (λ s. put_mid 10 4 (put_mid 6 4 s third) last) (next_part first second out 4 2 refl) ∙
+    ap (λ s. put_mid 10 4 s last) (next_part (first ++ second) third out 6 4 refl) ∙
+    next_part ((first ++ second) ++ third) last out 10 4 refl
 
 -- a label, and links written right behind it
 links_behind : (label links out : List ℕ) (w : ℕ) → length label ≡ w →

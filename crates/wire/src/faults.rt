@@ -71,6 +71,7 @@ impl From<Full> for ReceiveFault {
     }
 }
 
+// A number, as the rules tell refusals.
 impl From<FaultyRecord> for Refusal {
     ghost from_gives = { λ faulty r. r ≡ record_refusal faulty };
 
@@ -89,6 +90,7 @@ impl From<FaultyRecord> for Refusal {
     }
 }
 
+// A number, as the rules tell refusals.
 impl From<ReceiveFault> for Refusal {
     ghost from_gives = { λ fault r. r ≡ receive_refusal fault };
 

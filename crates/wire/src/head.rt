@@ -60,28 +60,13 @@ pub fn split_head(bytes: &[u8]) -> Option<(Head, &[u8])>
     Some((head, rest))
 }
 
-// Writes the head to the start of `out`, by one copy: of five copies nothing is proved as yet.
+// Writes the head to the start of `out`.
 pub fn write_head(head: Head, out: &mut [u8])
     requires { HEAD_LENGTH ≤ length out.old }
     ensures { out.new ≡ head_bytes head ++ drop HEAD_LENGTH out.old }
 {
-    let [l0, l1, l2, l3] = head.whole.to_be_bytes();
-    let [c0, c1, c2, c3] = head.count.to_be_bytes();
-    let [r0, r1, r2, r3] = head.root.to_be_bytes();
-    out[..HEAD_LENGTH].copy_from_slice(&[
-        l0,
-        l1,
-        l2,
-        l3,
-        head.version,
-        head.kind,
-        c0,
-        c1,
-        c2,
-        c3,
-        r0,
-        r1,
-        r2,
-        r3,
-    ]);
+    out[..4].copy_from_slice(&head.whole.to_be_bytes());
+    out[4..6].copy_from_slice(&[head.version, head.kind]);
+    out[6..10].copy_from_slice(&head.count.to_be_bytes());
+    out[10..HEAD_LENGTH].copy_from_slice(&head.root.to_be_bytes());
 }
