@@ -1,8 +1,8 @@
 // The vertices that a walk has met, in their order, and where each stands in it. Place k has the number of the k-th vertex
 // as its `list`; the place of vertex n, n - 2, has where it stands as its `number`. What lay there before the walk is
 // never trusted: a vertex is met only if the two point at each other.
-ghost use Rattle.std.specs.Prelude.{◌≡◌, ◌+◌, ◌-◌, ◌<◌, ◌≤◌, length};
-ghost use Rattle.writing.specs.Met.{Sparse, Stands, Unmet, Met, MetOrNot, NewLink, with_met};
+ghost use Rattle.std.specs.Prelude.{◌≡◌, ◌+◌, ◌<◌, ◌≤◌, length};
+ghost use Rattle.writing.specs.Met.{Sparse, Stands, MetOrNot, NewLink, with_met};
 
 use memory::work::Place;
 
