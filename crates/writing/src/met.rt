@@ -42,6 +42,7 @@ impl Seen<'_> {
         if link < 2 {
             return link;
         }
+        // By cases: in a closure the sum has no bound.
         match self.find(link) {
             Some(k) => k + 2,
             None => 0,
