@@ -10,7 +10,7 @@ mod records;
 mod walk;
 
 ghost use Rattle.std.specs.Prelude.{◌≡◌, ◌+◌, ◌*◌, ◌≤◌, length};
-ghost use Rattle.ledger.specs.Diagrams.{Good, Sound};
+ghost use Rattle.ledger.specs.Diagrams.{Sound};
 ghost use Rattle.ledger.specs.Ledger.{codes};
 ghost use Rattle.wire.specs.Written.{written};
 ghost use Rattle.writing.specs.Writes.{Writes, PastKept};

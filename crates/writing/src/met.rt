@@ -1,8 +1,8 @@
 // The vertices that a walk has met, in their order, and where each stands in it. Place k has the number of the k-th vertex
 // as its `list`; the place of vertex n, n - 2, has where it stands as its `number`. What lay there before the walk is
 // never trusted: a vertex is met only if the two point at each other.
-ghost use Rattle.std.specs.Prelude.{◌≡◌, ◌+◌, ◌-◌, ◌<◌, ◌≤◌, length};
-ghost use Rattle.writing.specs.Met.{Sparse, Stands, Unmet, Met, MetOrNot, NewLink, with_met};
+ghost use Rattle.std.specs.Prelude.{◌≡◌, ◌+◌, ◌<◌, ◌≤◌, length};
+ghost use Rattle.writing.specs.Met.{Sparse, Stands, MetOrNot, NewLink, with_met};
 
 use memory::work::Place;
 
@@ -42,6 +42,7 @@ impl Seen<'_> {
         if link < 2 {
             return link;
         }
+        // By cases: in a closure the sum has no bound.
         match self.find(link) {
             Some(k) => k + 2,
             None => 0,
