@@ -1,5 +1,5 @@
 -- A line that is ended.
-use Rattle.std.proofs.Common.{◌≡◌, ℕ, ◌+◌, ◌-◌, ◌<◌, ◌≤◌, List, [], ◌∷◌, ◌++◌, length, get_or, drop, set, sym, refl, ap, ◌∙◌, arith}
+use Rattle.std.proofs.Common.{◌≡◌, ℕ, ◌+◌, ◌<◌, ◌≤◌, List, [], ◌∷◌, ◌++◌, length, get_or, drop, set, sym, ap, ◌∙◌}
 use Rattle.std.proofs.lemmas.List.{append_assoc, drop_more, set_at}
 use Rattle.texts.specs.Texts.{Starts}
 use Rattle.commands.specs.Answers.{ended}
@@ -13,8 +13,3 @@ pub line_fed : (text old : List ℕ) (n : ℕ) → n ≡ length text → n < len
 line_fed text old n e l =
     ap (λ s. set (text ++ s) n 10) (drop_more old n 0 l) ∙ set_at text (get_or old n 0) (drop (n + 1) old) 10 n (sym e)
     ∙ sym (append_assoc text (10 ∷ []) (drop (n + 1) old))
-
-pub line_copied : (text old copied : List ℕ) → copied ≡ text → length text < length old → set (copied ++ drop (length text - 0) old) (length text) 10 ≡ ended text ++ drop (length text + 1) old
-line_copied text old copied e l =
-    let all : length text - 0 ≡ length text = omega arith in
-    (λ j. set (e j ++ drop (all j) old) (length text) 10) ∙ line_fed text old (length text) refl l
