@@ -1,8 +1,8 @@
 -- Hexadecimal text, digit by digit and pair by pair.
-use Rattle.std.proofs.Common.{◌≡◌, ℕ, ◌+◌, ◌-◌, ◌*◌, ◌/◌, ◌%◌, ◌<◌, ◌≤◌, Bool, true, false, ◌&&◌, eqb, leb, List, [], ◌∷◌, ◌++◌, length, get_or, take, drop, set, sym, refl, ap, ◌∙◌, subst, arith}
+use Rattle.std.proofs.Common.{◌≡◌, ℕ, ◌+◌, ◌-◌, ◌*◌, ◌/◌, ◌%◌, ◌<◌, Bool, true, false, ◌&&◌, eqb, leb, List, [], ◌∷◌, ◌++◌, length, get_or, take, drop, set, sym, refl, ap, ◌∙◌, subst, arith}
 use Rattle.std.proofs.lemmas.Nat.{div-mul-add, mod-mul-add}
-use Rattle.std.proofs.ByRecursion.{All-push, All-get_or, Decides-by_and}
-use Rattle.std.proofs.lemmas.List.{at_drop_more, at_drop_all, append_assoc, take_more, take_more_set, drop_more, drop-set-lt, drop-drop, set_at, length-append, length-take-le, take-append-drop}
+use Rattle.std.proofs.ByRecursion.{All-push}
+use Rattle.std.proofs.lemmas.List.{append_assoc, take_more, take_more_set, drop_more, drop-set-lt, drop-drop, set_at, length-append, length-take-le}
 use Rattle.std.proofs.lemmas.Bool.{and_parts, eqb-true, eq-eqb}
 use Rattle.std.proofs.lemmas.Bool.Decides.{nat_tests}
 use Rattle.commands.specs.Hexadecimals.{digit, hexadecimal, Bytes, Writes, Hexadecimal}
@@ -99,12 +99,6 @@ bytes_more out i v l small h =
 
 pub kept_more : (out old : List ℕ) (i v : ℕ) → drop i out ≡ drop i old → drop (i + 1) (set out i v) ≡ drop (i + 1) old
 kept_more out old i v h = drop-set-lt (i + 1) out i v (omega arith) ∙ sym (drop-drop 1 i out) ∙ ap (drop 1) h ∙ drop-drop 1 i old
-
-pub read_all : (out old : List ℕ) (i n : ℕ) → i ≡ n → drop i out ≡ drop i old → out ≡ take i out ++ drop n old
-read_all out old i n e h = sym (take-append-drop i out) ∙ ap (λ s. take i out ++ s) h ∙ ap (λ k. take i out ++ drop k old) e
-
-pub digit_at : (bs : List ℕ) (i : ℕ) → i < length bs → all_digits bs ≡ true → is_digit (get_or bs i 0) ≡ true
-digit_at bs i l h = All-get_or (λ b. is_digit b ≡ true) bs i 0 l ((Decides-by_and is_digit (λ b. is_digit b ≡ true) all_digits (λ b. (λ e. e, λ e. e)) refl (λ _ _. refl) bs).0 h)
 
 -- the loop of bytes that are written
 pub write_more : (bytes old : List ℕ) (i : ℕ) → i < length bytes → 2 * i + 1 < length old → set (set (hexadecimal (take i bytes) ++ drop (2 * i) old) (2 * i) (digit (get_or bytes i 0 / 16))) (2 * i + 1) (digit (get_or bytes i 0 % 16)) ≡ hexadecimal (take (i + 1) bytes) ++ drop (2 * (i + 1)) old

@@ -1,3 +1,4 @@
+mod Words
 mod Texts
 mod Hexes
 mod Numbers

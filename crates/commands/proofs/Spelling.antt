@@ -1,8 +1,8 @@
--- A line that is ended.
-use Rattle.std.proofs.Common.{◌≡◌, ℕ, ◌+◌, ◌-◌, ◌<◌, ◌≤◌, List, [], ◌∷◌, ◌++◌, length, get_or, drop, set, sym, refl, ap, ◌∙◌, arith}
-use Rattle.std.proofs.lemmas.List.{append_assoc, drop_more, set_at}
+-- A line that is ended, and the text of a refusal.
+use Rattle.std.proofs.Common.{◌≡◌, ℕ, ◌+◌, ◌-◌, ◌<◌, ◌≤◌, List, [], ◌∷◌, ◌++◌, length, get_or, take, drop, set, codes, decimal, sym, refl, ap, ◌∙◌, arith}
+use Rattle.std.proofs.lemmas.List.{append_assoc, drop_more, set_at, take_at, length-append}
 use Rattle.texts.specs.Texts.{Starts}
-use Rattle.commands.specs.Answers.{ended}
+use Rattle.commands.specs.Answers.{ended, refused_text}
 
 -- a text that stands at the start of an output, by the answer
 pub starts : (text old new : List ℕ) (n : ℕ) → length text ≤ length old → n ≡ length text → new ≡ text ++ drop n old → Starts text old new n
@@ -18,3 +18,9 @@ pub line_copied : (text old copied : List ℕ) → copied ≡ text → length te
 line_copied text old copied e l =
     let all : length text - 0 ≡ length text = omega arith in
     (λ j. set (e j ++ drop (all j) old) (length text) 10) ∙ line_fed text old (length text) refl l
+
+-- the text of a refusal, before what is left of the room for it
+pub refused_front : (n : ℕ) (digits copied past : List ℕ) → copied ≡ digits → digits ≡ decimal n → take (8 + length digits) (codes "REFUSED " ++ (copied ++ past)) ≡ refused_text n
+refused_front n digits copied past e h =
+    let long : length (codes "REFUSED " ++ digits) ≡ 8 + length digits = length-append (codes "REFUSED ") digits in
+    ap (λ s. take (8 + length digits) (codes "REFUSED " ++ (s ++ past))) e ∙ take_at (codes "REFUSED " ++ digits) past (8 + length digits) long ∙ ap (λ s. codes "REFUSED " ++ s) h

@@ -1,10 +1,8 @@
 -- Fields and numbers of a line.
-use Rattle.std.proofs.Common.{◌≡◌, ℕ, suc, ◌+◌, ◌-◌, ◌<◌, ◌≤◌, Bool, true, false, cond, not, List, [], ◌∷◌, length, get_or, take, drop, Some, None, Option, ◌==◌, nat_lt, sym, refl, ap, ◌∙◌, add-one, arith, length-drop, take_all, drop-cons, ltb-true, ltb-false}
-use Rattle.std.proofs.lemmas.List.{drop_all}
+use Rattle.std.proofs.Common.{◌≡◌, ℕ, suc, ◌+◌, ◌-◌, ◌<◌, ◌≤◌, Bool, true, false, cond, not, List, [], ◌∷◌, length, take, drop, Some, None, Option, ◌==◌, nat_lt, sym, refl, ap, ◌∙◌, arith, length-drop, take_all, ltb-true, ltb-false}
 use Rattle.std.specs.List.{prefix_len, position}
-use Rattle.std.specs.Option.{option_map, option_and_then}
-use Rattle.texts.specs.Decimals.{pushed}
-use Rattle.commands.specs.Reading.{longer, field_of, number_after, number_of, plain}
+use Rattle.std.specs.Option.{option_map}
+use Rattle.commands.specs.Reading.{longer, field_of}
 
 -- the place of the first space, or the length
 abbrev stop : List ℕ → ℕ
@@ -44,19 +42,3 @@ field_by_space bs o e = go (nat_lt (stop bs) (length bs)) refl e
 -- the two parts of a list around place i
 pub cut : (bs : List ℕ) (i : ℕ) → ◌≡◌ {A = Option (List ℕ × List ℕ)} (Some (take i bs, take (length bs - (i + 1)) (drop (i + 1) bs))) (Some (take i bs, drop (i + 1) bs))
 cut bs i = ap (λ s. Some (take i bs, s)) (take_all _ _ (omega (arith, length-drop (i + 1) bs)))
-
-pub number_plain : (bs : List ℕ) → plain bs ≡ true → number_of bs ≡ number_after 0 bs
-number_plain bs h = rw h
-
-number_step : (n : ℕ) (bs : List ℕ) (i : ℕ) → i < length bs → number_after n (drop i bs) ≡ option_and_then (λ m. number_after m (drop (i + 1) bs)) (pushed n (get_or bs i 0))
-number_step n bs i l = rw (add-one, drop-cons bs i 0)
-
--- one digit more, and a byte that is none
-pub number_more : (n m : ℕ) (bs : List ℕ) (i : ℕ) → i < length bs → Some m ≡ pushed n (get_or bs i 0) → number_after n (drop i bs) ≡ number_after m (drop (i + 1) bs)
-number_more n m bs i l e = number_step n bs i l ∙ ap (option_and_then (λ k. number_after k (drop (i + 1) bs))) (sym e)
-
-pub number_stops : (n : ℕ) (bs : List ℕ) (i : ℕ) → i < length bs → None ≡ pushed n (get_or bs i 0) → number_after n (drop i bs) ≡ None
-number_stops n bs i l e = number_step n bs i l ∙ ap (option_and_then (λ k. number_after k (drop (i + 1) bs))) (sym e)
-
-pub number_end : (n : ℕ) (bs : List ℕ) (i : ℕ) → length bs ≤ i → number_after n (drop i bs) ≡ Some n
-number_end n bs i l = rw (drop_all i bs l)

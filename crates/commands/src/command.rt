@@ -5,7 +5,7 @@ ghost use Rattle.commands.specs.Grammar.{Line, Says};
 ghost use Rattle.commands.specs.Meaning.{meaning};
 ghost use Rattle.commands.specs.Reading.{word_of, fields_of, line_of};
 
-use crate::fields::{is_word, read_u32, read_u64, split_field, split_u32};
+use crate::fields::{read_u32, read_u64, split_field, split_u32};
 use crate::hex::is_hex;
 
 // The bytes that a line may have, its line feed left out.
@@ -39,30 +39,21 @@ enum Word {
     Receive,
 }
 
-// The word that stands there, by tests: of a match on byte strings only the lengths are told.
+// The word that stands there.
 fn read_word(word: &[u8]) -> Option<Word>
     ensures { result ≡ word_of word.now }
 {
-    if is_word(word, b"ADD") {
-        Some(Word::Add)
-    } else if is_word(word, b"REMOVE") {
-        Some(Word::Remove)
-    } else if is_word(word, b"HOLDS") {
-        Some(Word::Holds)
-    } else if is_word(word, b"UNDER") {
-        Some(Word::Under)
-    } else if is_word(word, b"COUNT") {
-        Some(Word::Count)
-    } else if is_word(word, b"WRITE") {
-        Some(Word::Write)
-    } else if is_word(word, b"PICK") {
-        Some(Word::Pick)
-    } else if is_word(word, b"JOIN") {
-        Some(Word::Join)
-    } else if is_word(word, b"RECEIVE") {
-        Some(Word::Receive)
-    } else {
-        None
+    match word {
+        b"ADD" => Some(Word::Add),
+        b"REMOVE" => Some(Word::Remove),
+        b"HOLDS" => Some(Word::Holds),
+        b"UNDER" => Some(Word::Under),
+        b"COUNT" => Some(Word::Count),
+        b"WRITE" => Some(Word::Write),
+        b"PICK" => Some(Word::Pick),
+        b"JOIN" => Some(Word::Join),
+        b"RECEIVE" => Some(Word::Receive),
+        _ => None,
     }
 }
 

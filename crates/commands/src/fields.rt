@@ -1,18 +1,9 @@
 // The fields of a line: words, and numbers in decimal. Each function goes over its bytes once.
-ghost use Rattle.std.specs.Prelude.{◌≡◌, ◌==◌, position, Decides};
+ghost use Rattle.std.specs.Prelude.{◌≡◌, ◌==◌, position};
 ghost use Rattle.std.specs.Option.{option_map};
-ghost use Rattle.std.specs.Str.{bytes_eq};
 ghost use Rattle.commands.specs.Reading.{field_of, texts, plain, number_of, narrow_of, listed, listed_text};
 
 use texts::decimals::push_digit;
-
-// Whether a word is this one.
-pub fn is_word(word: &[u8], name: &[u8]) -> bool
-    ensures value { result ≡ bytes_eq word.now name.now }
-    ensures same { Decides result (word.now ≡ name.now) }
-{
-    word == name
-}
 
 // The place of the first space.
 fn find_space(text: &[u8]) -> Option<usize>

@@ -3,8 +3,6 @@ ghost use Rattle.std.specs.Prelude.{◌≡◌, ◌↔◌, Some};
 ghost use Rattle.commands.specs.declared.kinds.Kind.{Kind};
 ghost use Rattle.commands.specs.Grammar.{kind_text};
 
-use crate::fields::is_word;
-
 // A kind of symbol.
 #[derive(Clone, Copy, Debug, PartialEq, Eq)]
 pub enum Kind {
@@ -16,11 +14,9 @@ pub enum Kind {
 pub fn read_kind(line: &[u8]) -> Option<Kind>
     ensures answer { (k : Kind) → (result ≡ Some k) ↔ (kind_text k ≡ line.now) }
 {
-    if is_word(line, b"LETTERS") {
-        Some(Kind::Letters)
-    } else if is_word(line, b"STEPS") {
-        Some(Kind::Steps)
-    } else {
-        None
+    match line {
+        b"LETTERS" => Some(Kind::Letters),
+        b"STEPS" => Some(Kind::Steps),
+        _ => None,
     }
 }

@@ -1,6 +1,6 @@
 -- A text spelled letter by letter, and a code's text.
-use Rattle.std.specs.Prelude.{◌≡◌, ℕ, ◌+◌, ◌<◌, ◌≤◌, List, [], ◌∷◌, ◌++◌, length, take, drop, set, Ok, Err, Result, slice_index, slice_index_or, slice_set, refl}
-use Rattle.std.proofs.Common.{sym, ap, ◌∙◌, arith, take_all}
+use Rattle.std.specs.Prelude.{◌≡◌, ℕ, ◌+◌, ◌<◌, List, [], ◌∷◌, ◌++◌, length, take, drop, set, Ok, Err, Result, slice_index, slice_index_or, slice_set, refl}
+use Rattle.std.proofs.Common.{sym, ap, ◌∙◌, arith}
 use Rattle.std.proofs.lemmas.List.{take_more, take-append-drop, drop_more, map_more, set_at, append_assoc, length-take-le, length-map}
 use Rattle.symbols.specs.declared.SymbolFault.{SymbolFault}
 use Rattle.texts.specs.declared.TextFault.{TextFault}
@@ -43,9 +43,6 @@ pub spelled_stops : (from : List ℕ) (code : List Letter) (i : ℕ) (fault : Sy
 spelled_stops from code i fault l h e =
     ap spelled (sym (take-append-drop i from) ∙ ap (λ s. take i from ++ s) (drop_more from i 0 l)) ∙ spelled-++ (take i from) (slice_index from i ∷ drop (i + 1) from)
     ∙ (λ j. joined (h j) (behind (sym e j) (spelled (drop (i + 1) from))))
-
-pub spelled_all : (from : List ℕ) (code : List Letter) (i : ℕ) → length from ≤ i → spelled (take i from) ≡ Ok code → spelled from ≡ Ok code
-spelled_all from code i l h = ap spelled (sym (take_all i from l)) ∙ h
 
 -- the text of a code written up to place i, with what was there after it, and one byte more
 pub written_more : (code : List Letter) (old : List ℕ) (i : ℕ) (d : Letter) → i < length code → i < length old → slice_set (text_of (take i code) ++ drop i old) i (byte_of (slice_index_or code i d)) ≡ text_of (take (i + 1) code) ++ drop (i + 1) old

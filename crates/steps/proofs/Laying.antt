@@ -1,6 +1,7 @@
 -- Bytes laid one after another into an output.
-use Rattle.std.proofs.Common.{◌≡◌, ℕ, ◌+◌, ◌<◌, ◌≤◌, List, [], ◌∷◌, ◌++◌, length, get_or, take, drop, set, sym, refl, ap, ◌∙◌, append_assoc, arith, length-append, length-drop}
+use Rattle.std.proofs.Common.{◌≡◌, ℕ, ◌+◌, ◌<◌, ◌≤◌, List, [], ◌∷◌, ◌++◌, length, get_or, take, drop, set, sym, refl, ap, ◌∙◌, append_assoc, arith, length-append}
 use Rattle.std.proofs.lemmas.List.{take_at, drop_at, drop-drop, drop_more, set_at, take_more, take-append-drop, length-take-le, append-nil}
+use Rattle.std.proofs.lemmas.Grind.{flat_map-append}
 use Rattle.std.specs.List.{flat_map}
 use Rattle.steps.specs.Paths.{laid}
 
@@ -38,10 +39,6 @@ laid_after at b bs out h =
     ap (λ s. laid (at + 1) bs (set s at b)) (sym (front_itself at out (omega arith))) ∙ ap (laid (at + 1) bs) (set_next front out at b long h) ∙ laid_next (front ++ b ∷ []) bs out (at + 1) next
     ∙ ap (λ s. fronted s out) (append_assoc front (b ∷ []) bs) ∙ sym (laid_front at (b ∷ bs) out (omega arith))
 
--- nothing laid changes nothing
-pub laid_none : (at : ℕ) (out : List ℕ) → out ≡ laid at [] out
-laid_none at out = let here : at + 0 ≡ at = omega arith in sym (ap (λ n. take at out ++ drop n out) here ∙ take-append-drop at out)
-
 -- bytes, and then others
 pub laid_on : (at end : ℕ) (bs more out : List ℕ) → at ≤ length out → end ≡ at + length bs → laid end more (laid at bs out) ≡ laid at (bs ++ more) out
 laid_on at end bs more out h e =
@@ -49,31 +46,11 @@ laid_on at end bs more out h e =
     let long : end ≡ length (front ++ bs) = e ∙ ap (λ n. n + length bs) (sym (length-take-le at out h)) ∙ sym (length-append front bs) in
     ap (laid end more) (laid_front at bs out h) ∙ laid_next (front ++ bs) more out end long ∙ ap (λ s. fronted s out) (append_assoc front bs more) ∙ sym (laid_front at (bs ++ more) out h)
 
-pub length_laid : (at : ℕ) (bs out : List ℕ) → at + length bs ≤ length out → length (laid at bs out) ≡ length out
-length_laid at bs out h =
-    let rest = drop (at + length bs) out in
-    let front : length (take at out) ≡ at = length-take-le at out (omega arith) in
-    let all = length-append (take at out) (bs ++ rest) in
-    let back = length-append bs rest in
-    let past = length-drop (at + length bs) out in
-    omega arith
-
 -- bytes between two parts that stay
 pub laid_parts : (at r : ℕ) (bs old new : List ℕ) → r ≡ at → take r new ≡ take r old → drop r new ≡ bs ++ drop (at + length bs) old → new ≡ laid at bs old
 laid_parts at r bs old new e front back = sym (take-append-drop r new) ∙ (λ i. front i ++ back i) ∙ ap (λ k. take k old ++ (bs ++ drop (at + length bs) old)) e
 
-module _ {X : Type 0} (f : X → List ℕ) where
-  joined-++ : (xs ys : List X) → flat_map f (xs ++ ys) ≡ flat_map f xs ++ flat_map f ys
-  joined-++ [] ys = refl
-  joined-++ (x ∷ xs) ys = ap (λ s. f x ++ s) (joined-++ xs ys) ∙ sym (append_assoc (f x) (flat_map f xs) (flat_map f ys))
-
-  one : (x : X) → flat_map f (x ∷ []) ≡ f x
-  one x = append-nil (f x)
-
-  pub joined_next : (xs : List X) (i : ℕ) (d : X) → i < length xs → flat_map f (take (i + 1) xs) ≡ flat_map f (take i xs) ++ f (get_or xs i d)
-  joined_next xs i d h = ap (flat_map f) (take_more xs i d h) ∙ joined-++ (take i xs) (get_or xs i d ∷ []) ∙ ap (λ s. flat_map f (take i xs) ++ s) (one (get_or xs i d))
-
-  pub joined_part : (xs : List X) (i : ℕ) → length (flat_map f (take i xs)) ≤ length (flat_map f xs)
-  joined_part xs i =
-      let whole : length (flat_map f xs) ≡ length (flat_map f (take i xs)) + length (flat_map f (drop i xs)) = ap (λ s. length (flat_map f s)) (sym (take-append-drop i xs)) ∙ ap length (joined-++ (take i xs) (drop i xs)) ∙ length-append (flat_map f (take i xs)) (flat_map f (drop i xs)) in
-      omega arith
+-- one piece more
+pub joined_next : {X : Type 0} (f : X → List ℕ) (xs : List X) (i : ℕ) (d : X) → i < length xs → flat_map f (take (i + 1) xs) ≡ flat_map f (take i xs) ++ f (get_or xs i d)
+joined_next f xs i d h =
+    ap (flat_map f) (take_more xs i d h) ∙ flat_map-append f (take i xs) (get_or xs i d ∷ []) ∙ ap (λ s. flat_map f (take i xs) ++ s) (append-nil (f (get_or xs i d)))

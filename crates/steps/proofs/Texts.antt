@@ -1,11 +1,12 @@
 -- The lengths of texts, and a text written step after step.
 use Rattle.std.proofs.Common.{◌≡◌, ℕ, ◌+◌, ◌-◌, ◌<◌, ◌≤◌, ◌↔◌, List, ◌∷◌, length, get_or, take, Some, None, decimal, Option, sym, ap, ◌∙◌, arith, length-append}
 use Rattle.std.proofs.lemmas.List.{take_all}
+use Rattle.std.proofs.lemmas.List.Folds.{length-flat_map-take}
 use Rattle.std.specs.List.{flat_map}
 use Rattle.std.specs.Option.{IsSome}
 use Rattle.steps.specs.Paths.{step_text, slashed, text_of, laid}
 use Rattle.steps.specs.declared.Step.{Step}
-use Rattle.steps.proofs.Laying.{fronted, laid_first, laid_on, joined_next, joined_part}
+use Rattle.steps.proofs.Laying.{fronted, laid_first, laid_on, joined_next}
 
 pub length_text : (first : Step) (rest : List Step) → length (text_of (first ∷ rest)) ≡ length (step_text first) + length (flat_map slashed rest)
 length_text first rest = length-append (step_text first) (flat_map slashed rest)
@@ -16,8 +17,7 @@ length_next rest i d h = ap length (joined_next slashed rest i d h) ∙ length-a
 -- a step that does not fit what is left after the steps before it
 pub fits_no_more : (rest : List Step) (i k left start : ℕ) (d : Step) → i < length rest → k ≡ length (decimal (get_or rest i d).number) → left + length (flat_map slashed (take i rest)) ≡ start → (2 + k ≤ left → ⊥) → start < length (flat_map slashed rest)
 fits_no_more rest i k left start d h e inv p =
-    let next = length_next rest i d h in
-    let part = joined_part slashed rest (i + 1) in
+    let part = length-flat_map-take slashed rest i d h in
     let short : left < 2 + k = omega arith in
     omega arith
 
@@ -34,8 +34,7 @@ no_room first rest room start k (Some n) none e p h = absurd cc
 pub room_next : (first : Step) (rest : List Step) (i a at n : ℕ) (d : Step) → i < length rest → a ≡ 0 + length (step_text first) → at ≡ a + length (flat_map slashed (take i rest)) → length (text_of (first ∷ rest)) ≤ n → at + length (slashed (get_or rest i d)) ≤ n
 room_next first rest i a at n d h e inv fits =
     let whole = length_text first rest in
-    let next = length_next rest i d h in
-    let part = joined_part slashed rest (i + 1) in
+    let part = length-flat_map-take slashed rest i d h in
     omega arith
 
 -- the next step behind its slash

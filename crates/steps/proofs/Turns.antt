@@ -23,10 +23,6 @@ pending (Numbered s) = 1
 abbrev pub onto : List Step → Option (List Step) → Option (List Step)
 onto code o = option_map (λ rest. code ++ rest) o
 
-pub onto_none : (o : Option (List Step)) → o ≡ onto [] o
-onto_none None = refl
-onto_none (Some code) = refl
-
 onto_done : (code : List Step) (d : Option Step) (o : Option (List Step)) → onto code (option_map (with_done d) o) ≡ onto (code ++ with_done d []) o
 onto_done code d None = refl
 onto_done code None (Some rest) = ap (λ c. Some (c ++ rest)) (sym (append-nil code))
@@ -35,12 +31,9 @@ onto_done code (Some s) (Some rest) = ap (λ c. Some c) (sym (append_assoc code 
 from_turn : (from : List ℕ) (stage : Stage) (i : ℕ) (o : Option Turn) → i < length from → o ≡ turned stage (get_or from i 0) → steps_from stage (drop i from) ≡ gone_on (λ next. steps_from next (drop (i + 1) from)) o
 from_turn from stage i o l e = ap (steps_from stage) (drop_more from i 0 l) ∙ ap (gone_on (λ next. steps_from next (drop (i + 1) from))) (sym e)
 
--- one byte more, and a byte that is out of place
+-- one byte more
 pub turn_more : (all : Option (List Step)) (from : List ℕ) (stage : Stage) (i : ℕ) (code : List Step) (t : Turn) → i < length from → all ≡ onto code (steps_from stage (drop i from)) → Some t ≡ turned stage (get_or from i 0) → all ≡ onto (code ++ with_done t.done []) (steps_from t.next (drop (i + 1) from))
 turn_more all from stage i code t l h e = h ∙ ap (onto code) (from_turn from stage i (Some t) l e) ∙ onto_done code t.done (steps_from t.next (drop (i + 1) from))
-
-pub turn_stops : (all : Option (List Step)) (from : List ℕ) (stage : Stage) (i : ℕ) (code : List Step) → i < length from → all ≡ onto code (steps_from stage (drop i from)) → None ≡ turned stage (get_or from i 0) → all ≡ None
-turn_stops all from stage i code l h e = h ∙ ap (onto code) (from_turn from stage i None l e)
 
 -- the end of the text
 pub turn_ends : (all : Option (List Step)) (from : List ℕ) (stage : Stage) (i : ℕ) (code : List Step) → length from ≤ i → all ≡ onto code (steps_from stage (drop i from)) → all ≡ onto code (ended stage)

@@ -94,6 +94,7 @@ fn keep(done: Option<Step>, count: usize, out: &mut [Step]) -> usize
 }
 
 // Reads the steps of a text to the start of `out`, as far as there is room, up to the first byte that is out of place.
+#[tactic(auto, using(crate::specs::Spelling::exact))]
 pub fn read_steps(from: &[u8], out: &mut [Step]) -> Result<usize, TextFault>
     ensures answer { Begun (spelled from.now) out.old result out.new }
     ensures exact { Exact from.now (spelled from.now) }

@@ -26,15 +26,6 @@ module _ {S : Type 0} where
   pub begun_err : (s : Result (List S) TextFault) (fault : TextFault) (old new : List S) (r : Result ℕ TextFault) → s ≡ Err fault → r ≡ Err fault → Begun s old r new
   begun_err s fault old new r e p = rw e p
 
-  -- a reading that refuses, and one after a reading that did not
-  pub read_none : (s : Result (List S) TextFault) (fault : TextFault) (a b old : List S) → Begun s a (Err fault) b → ReadTo s old (Err fault) old
-  read_none (Ok code) fault a b old h = absurd cc
-  read_none (Err fault₁) fault a b old h = (h, refl)
-
-  pub read_again : (s : Result (List S) TextFault) (n : ℕ) (a b old new : List S) (r : Result ℕ TextFault) → Begun s a (Ok n) b → Begun s old r new → ReadTo s old r new
-  read_again (Ok code) n a b old new r h k = k
-  read_again (Err fault) n a b old new r h k = absurd cc
-
   -- what a caller learns of a reading
   pub read_ok : (s : Result (List S) TextFault) (old new : List S) (n : ℕ) → ReadTo s old (Ok n) new → (code : List S) × (s ≡ Ok code) × (n ≡ length code) × (new ≡ filled code old)
   read_ok (Ok code) old new n h = let e = h.0 in (code, refl, cc, h.1)

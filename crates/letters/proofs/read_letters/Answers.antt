@@ -1,9 +1,9 @@
-use Rattle.std.proofs.Common.{◌≡◌, ◌+◌, [], ◌∷◌, ◌++◌, length, Ok, sym, refl, ap, ◌∙◌, arith}
+use Rattle.std.proofs.Common.{◌+◌, [], ◌∷◌, ◌++◌, refl, ap, ◌∙◌}
 use Rattle.std.proofs.lemmas.List.{length_push}
 use Rattle.std.proofs.lemmas.Result.{err_from_is_err_and}
-use Rattle.texts.proofs.Filling.{filled_none, filled_more, begun_ok, begun_err}
+use Rattle.texts.proofs.Filling.{filled_more, begun_err}
 use Rattle.letters.specs.Codes.{spelled}
-use Rattle.letters.proofs.Spelling.{spelled_more, spelled_stops, spelled_all}
+use Rattle.letters.proofs.Spelling.{spelled_more, spelled_stops}
 use Rattle.letters.proofs.read_letters.Goals as goal
 
 pub returns-in_err-letter : goal.returns-in_err-letter
@@ -11,9 +11,6 @@ returns-in_err-letter c =
     let p = err_from_is_err_and c.from_residual.result c.from_residual.ensures.1 in
     let stops = spelled_stops c.args.from.now c.loop-i.invariant.0 c.loop-i.i _ c.loop-i-test.true c.loop-i.invariant.1 c.in_err-letter.ensures in
     rw (p.1, p.2) (begun_err (spelled c.args.from.now) _ c.args.out.now c.loop-i.out _ stops refl)
-
-pub loop-i-init : goal.loop-i-init
-loop-i-init c = ([], refl, refl, sym (filled_none c.args.out.now))
 
 pub loop-i-preserved : goal.loop-i-preserved
 loop-i-preserved c =
@@ -27,9 +24,3 @@ loop-i-preserved c =
       length_push code x ∙ ap (λ n. n + 1) long,
       c.put.ensures ∙ (cc),
     )
-
-pub returns : goal.returns
-returns c =
-    let code = c.loop-i.invariant.0 in
-    let end : length code ≡ length c.args.from.now = omega arith in
-    begun_ok (spelled c.args.from.now) code c.args.out.now c.loop-i.out (Ok (length c.args.from.now)) (spelled_all c.args.from.now code c.loop-i.i c.loop-i-test.false c.loop-i.invariant.1) (ap (λ n. Ok n) (sym end)) c.loop-i.invariant.3

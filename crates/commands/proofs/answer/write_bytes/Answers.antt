@@ -1,7 +1,6 @@
 use Rattle.std.proofs.Common.{◌≡◌, ◌++◌, length, drop, set, sym, refl, ap, ◌∙◌, arith}
 use Rattle.std.proofs.lemmas.List.{length_push}
 use Rattle.std.proofs.lemmas.Bool.{eqb-true, eqb-false}
-use Rattle.std.proofs.lemmas.Result.{err_from_is_err_and}
 use Rattle.commands.specs.Answers.{ended}
 use Rattle.commands.specs.Hexadecimals.{hexadecimal}
 use Rattle.commands.proofs.Hexes.{length_hex}
@@ -14,13 +13,6 @@ returns-then-is_empty c =
     let long = length_hex c.args.bytes.now in
     let more = length_push (hexadecimal c.args.bytes.now) 10 in
     elim c.then-is_empty.branch [ then-is_empty-via-then-is_empty w ↦ (omega (arith, eqb-true _ _ (sym w.if-is_empty.ensures)), refl) | then-is_empty-via-else-is_empty+then-out-bytes w ↦ (omega arith, refl) ]
-
-pub returns-in_err-n : goal.returns-in_err-n
-returns-in_err-n c =
-    let p = err_from_is_err_and c.from_residual.result c.from_residual.ensures.1 in
-    let more = length_push (hexadecimal c.args.bytes.now) 10 in
-    let room = c.in_err-n.ensures.answer in
-    rw p.1 (omega arith, room.1)
 
 pub bounds-out-n : goal.bounds-out-n
 bounds-out-n c =

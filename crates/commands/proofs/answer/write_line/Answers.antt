@@ -1,11 +1,8 @@
-use Rattle.std.proofs.Common.{refl, arith}
+use Rattle.std.proofs.Common.{arith}
 use Rattle.std.proofs.lemmas.List.{length_push}
 use Rattle.commands.specs.Answers.{ended}
 use Rattle.commands.proofs.Spelling.{starts, line_copied}
 use Rattle.commands.proofs.answer.write_line.Goals as goal
-
-pub returns-then-out-n : goal.returns-then-out-n
-returns-then-out-n c = (omega (arith, length_push c.args.text.now 10), refl)
 
 pub returns : goal.returns
 returns c =

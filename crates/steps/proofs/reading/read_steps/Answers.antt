@@ -1,27 +1,11 @@
-use Rattle.std.proofs.Common.{◌+◌, [], ◌∷◌, ◌++◌, set, Some, None, Ok, Err, sym, refl, ap, ◌∙◌, arith, eqb-true}
-use Rattle.std.proofs.lemmas.List.{nil_from_length, length_push}
-use Rattle.texts.proofs.Filling.{filled_none, filled_more, begun_ok, begun_err}
+use Rattle.std.proofs.Common.{◌+◌, [], ◌∷◌, ◌++◌, set, Some, None, Ok, Err, sym, refl, ap, ◌∙◌}
+use Rattle.std.proofs.lemmas.List.{length_push}
+use Rattle.texts.proofs.Filling.{filled_more, begun_ok, begun_err}
 use Rattle.texts.specs.declared.TextFault.TheVariants.{Unreadable}
 use Rattle.steps.specs.Stages.{with_done, ended, steps_from, spelled}
 use Rattle.steps.specs.declared.reading.Stage.TheVariants.{Start}
-use Rattle.steps.specs.Spelling.{exact}
-use Rattle.steps.proofs.Turns.{onto, onto_none, turn_more, turn_stops, turn_ends, ended_none, spelled_some, kept_long, kept_filled, kept_few}
+use Rattle.steps.proofs.Turns.{onto, turn_more, turn_ends, ended_none, spelled_some, kept_long, kept_filled, kept_few}
 use Rattle.steps.proofs.reading.read_steps.Goals as goal
-
-pub returns-then-is_empty : goal.returns-then-is_empty
-returns-then-is_empty c = record {
-  exact = exact c.args.from.now;
-  answer = begun_ok (spelled c.args.from.now) [] c.args.out.now c.args.out.now (Ok 0) (ap spelled (nil_from_length c.args.from.now (eqb-true _ _ (sym c.is_empty.ensures ∙ c.if-is_empty.true)))) refl (sym (filled_none c.args.out.now));
-}
-
-pub loop-b-init : goal.loop-b-init
-loop-b-init c = ([], refl, omega arith, onto_none (steps_from Start c.args.from.now), sym (filled_none c.args.out.now))
-
-pub returns-in_default : goal.returns-in_default
-returns-in_default c =
-    let from = c.args.from.now in
-    let none = turn_stops (steps_from Start from) from c.loop-b.stage c.loop-b.b-index c.loop-b.invariant.0 c.loop-b-test.true c.loop-b.invariant.3 c.in_default.ensures in
-    record { answer = begun_err (spelled from) Unreadable c.args.out.now c.loop-b.out (Err Unreadable) (spelled_some from None (sym c.is_empty.ensures ∙ c.if-is_empty.false) none) refl; exact = exact from }
 
 pub loop-b-preserved : goal.loop-b-preserved
 loop-b-preserved c =
@@ -37,23 +21,20 @@ loop-b-preserved c =
       kept_filled t.done c.loop-b.count r c.loop-b.out new code c.args.out.now c.keep-count.ensures c.loop-b.invariant.1 c.loop-b.invariant.4,
     )
 
-pub returns-in_default-stage : goal.returns-in_default-stage
-returns-in_default-stage c =
+pub returns-in_default-stage-clause-answer : goal.returns-in_default-stage-clause-answer
+returns-in_default-stage-clause-answer c =
     let from = c.args.from.now in
     let ends = turn_ends (steps_from Start from) from c.loop-b.stage c.loop-b.b-index c.loop-b.invariant.0 c.loop-b-test.false c.loop-b.invariant.3 in
     let none = ends ∙ ap (onto c.loop-b.invariant.0) (ended_none c.loop-b.stage c.in_default-stage.not-Numbered) in
-    record { answer = begun_err (spelled from) Unreadable c.args.out.now c.loop-b.out (Err Unreadable) (spelled_some from None (sym c.is_empty.ensures ∙ c.if-is_empty.false) none) refl; exact = exact from }
+    begun_err (spelled from) Unreadable c.args.out.now c.loop-b.out (Err Unreadable) (spelled_some from None (sym c.is_empty.ensures ∙ c.if-is_empty.false) none) refl
 
-pub returns : goal.returns
-returns c =
+pub returns-clause-answer : goal.returns-clause-answer
+returns-clause-answer c =
     let from = c.args.from.now in
     let code = c.loop-b.invariant.0 in
     let last = c.in-Numbered.last in
     let ends = turn_ends (steps_from Start from) from c.loop-b.stage c.loop-b.b-index code c.loop-b-test.false c.loop-b.invariant.3 in
     let all = ends ∙ ap (λ stage. onto code (ended stage)) c.in-Numbered.is in
     let long = c.loop-b.invariant.1 in
-    record {
-      exact = exact from;
-      answer = begun_ok (spelled from) (code ++ last ∷ []) c.args.out.now c.put.new.out (Ok (c.loop-b.count + 1)) (spelled_some from (Some (code ++ last ∷ [])) (sym c.is_empty.ensures ∙ c.if-is_empty.false) all) (ap (λ n. Ok n) (sym (length_push code last ∙ ap (λ n. n + 1) long)))
-          (c.put.ensures ∙ (λ j. set (c.loop-b.invariant.4 j) (sym long j) last) ∙ filled_more code last c.args.out.now);
-    }
+    begun_ok (spelled from) (code ++ last ∷ []) c.args.out.now c.put.new.out (Ok (c.loop-b.count + 1)) (spelled_some from (Some (code ++ last ∷ [])) (sym c.is_empty.ensures ∙ c.if-is_empty.false) all) (ap (λ n. Ok n) (sym (length_push code last ∙ ap (λ n. n + 1) long)))
+    (c.put.ensures ∙ (λ j. set (c.loop-b.invariant.4 j) (sym long j) last) ∙ filled_more code last c.args.out.now)

@@ -1,30 +1,13 @@
-use Rattle.std.proofs.Common.{◌≡◌, ℕ, ◌≤◌, List, ◌∷◌, ◌++◌, length, drop, Ok, sym, refl, subst, arith}
+use Rattle.std.proofs.Common.{◌≡◌, ◌≤◌, List, ◌∷◌, ◌++◌, length, drop, Ok, sym, subst, arith}
 use Rattle.std.proofs.ByRecursion.{All-more}
-use Rattle.std.proofs.lemmas.List.{nil_from_length, take_all}
+use Rattle.std.proofs.lemmas.List.{take_all}
 use Rattle.std.specs.List.{AllByRecursion}
 use Rattle.steps.specs.Paths.{text_of, Short}
 use Rattle.steps.specs.Stages.{spelled}
 use Rattle.steps.specs.declared.Step.{Step}
-use Rattle.steps.proofs.Laying.{laid_none}
 use Rattle.steps.specs.Spelling.{text_back}
 use Rattle.steps.proofs.Texts.{length_text, room_next, end_next, written_next, end_all, written_all}
 use Rattle.steps.proofs.writing.write_steps.Goals as goal
-
-pub returns-in_default : goal.returns-in_default
-returns-in_default c =
-    let none = nil_from_length c.args.code.now c.in_default.ensures.cases in
-    let old = c.args.out.now in
-    let P : List Step → Type 0 = λ code. (length (text_of code) ≤ length old) × (◌≡◌ {A = ℕ} 0 (length (text_of code))) × (old ≡ text_of code ++ drop (length (text_of code)) old) in
-    record { answer = subst P (sym none) (omega arith, refl, refl); back = subst (λ code. spelled (text_of code) ≡ Ok code) (sym none) refl }
-
-pub write_step-at-requires : goal.write_step-at-requires
-write_step-at-requires c =
-    let whole = length_text c.in-Some.first.now c.in-Some.rest.now in
-    let room = c.room_after.ensures.0 c.if-is_none.ensures in
-    omega arith
-
-pub loop-step-init : goal.loop-step-init
-loop-step-init c = (omega arith, laid_none c.write_step-at.result c.write_step-at.new.out, tt)
 
 pub write_slashed-at-requires : goal.write_slashed-at-requires
 write_slashed-at-requires c =
