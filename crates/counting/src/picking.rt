@@ -54,7 +54,6 @@ fn left_of(before: u64, these: Option<u64>) -> Option<u64>
 
 // What this code is.
 fn turn_at<S: Symbol, B: Shelf<S>>(shelf: &B, spot: Spot, work: &[Place]) -> Turn<S>
-    requires { spot.list < length work.now }
     ensures below { Lower spot result }
     ensures value { Sound S.Symbol.before (B.Shelf.vertices shelf.now) → Tallied (B.Shelf.vertices shelf.now) (spot.list + 1) work.now → Stands (B.Shelf.vertices shelf.now) spot → Leads (B.Shelf.vertices shelf.now) spot result }
 {
@@ -87,7 +86,6 @@ fn advance<S: Symbol, B: Shelf<S>>(
     out: &mut [S],
     work: &[Place],
 ) -> Option<Course>
-    requires room { course.rest.list < length work.now }
     requires within { course.length ≤ 64 }
     requires output { 64 ≤ length out.old }
     ensures below { Falls course result }
@@ -115,7 +113,6 @@ fn advance<S: Symbol, B: Shelf<S>>(
 
 // Writes a code to the start of `out`, and answers its length.
 fn write_code<S: Symbol, B: Shelf<S>>(shelf: &B, spot: Spot, out: &mut [S], work: &[Place]) -> usize
-    requires room { spot.list < length work.now }
     requires output { 64 ≤ length out.old }
     ensures kept { (result ≤ 64) × (drop result out.new ≡ drop result out.old) }
     ensures value { Sound S.Symbol.before (B.Shelf.vertices shelf.now) → Tallied (B.Shelf.vertices shelf.now) (spot.list + 1) work.now → Stands (B.Shelf.vertices shelf.now) spot → Short (codes (B.Shelf.vertices shelf.now) spot.list) → Writes (ordered (codes (B.Shelf.vertices shelf.now) spot.list)) spot.before out.old result out.new }
