@@ -1,7 +1,6 @@
 -- The new numbers of a keep-list, read from the places.
-use Rattle.std.proofs.Common.{◌≡◌, ℕ, ◌+◌, ◌≤◌, List, [], ◌∷◌, ◌++◌, map, length, take, drop, refl, ◌∙◌, ap₂}
+use Rattle.std.proofs.Common.{◌≡◌, ℕ, ◌+◌, ◌≤◌, List, [], ◌∷◌, map, length, refl, ap₂}
 use mathlib.Core.List.{Memᴰ}
-use Rattle.std.proofs.lemmas.List.{append-nil, drop_all, take_all}
 use Rattle.ledger.specs.Gather.{renumber}
 use Rattle.memory.specs.declared.work.Place.{Place}
 use Rattle.memory.specs.Marks.{noted}
@@ -16,7 +15,3 @@ map_each f g (x ∷ xs) h = ap₂ (λ y ys. y ∷ ys) (h x (Memᴰ.head refl)) (
 pub all_noted : (ps qs : List Place) (ns : List ℕ) → length qs ≡ length ps → Renumbered ps qs → ((n : ℕ) → Memᴰ n ns → n ≤ length ps + 1) →
     map (noted qs) ns ≡ map (renumber (marks_in ps)) ns
 all_noted ps qs ns l r good = map_each (noted qs) (renumber (marks_in ps)) ns (λ n i. noted_of ps qs n l r (good n i))
-
--- a pass over the lists to renumber ends
-pub map_over_all : (f : ℕ → ℕ) (xs : List ℕ) (i : ℕ) → length xs ≤ i → map f (take i xs) ++ drop i xs ≡ map f xs
-map_over_all f xs i h = ap₂ (λ (a b : List ℕ). map f a ++ b) (take_all i xs h) (drop_all i xs h) ∙ append-nil (map f xs)

@@ -39,15 +39,7 @@ nth_with : {S : Type 0} (b : Bool) (l : List (List S)) (k : ℕ) → slice_get (
 nth_with true l k = let e : 1 + k ≡ suc k = omega arith in ap (slice_get ([] ∷ l)) e
 nth_with false l k = let e : 0 + k ≡ k = omega arith in ap (slice_get l) e
 
--- the empty code comes first
-pub nth_blank : {S : Type 0} (t : Codes S) (k : ℕ) → k < bool_byte (blank_in t) → slice_get (ordered t) k ≡ Some []
-nth_blank t k h = by (blank_in t) h
-  where
-    by : (b : Bool) → k < bool_byte b → slice_get (with_empty b (later_codes t)) k ≡ Some []
-    by true l = let e : k ≡ 0 = omega arith in ap (slice_get ([] ∷ later_codes t)) e
-    by false l = absurd (omega arith)
-
--- then come those that begin with the head
+-- after the empty code come those that begin with the head
 pub nth_inner : {S : Type 0} (a : S) (z o : Codes S) (k : ℕ) → k < length (ordered o) →
     slice_get (ordered (begun a z o)) (bool_byte (blank_in z) + k) ≡ option_map (λ c. a ∷ c) (slice_get (ordered o) k)
 nth_inner a z o k h =

@@ -16,28 +16,18 @@ use Rattle.memory.specs.declared.work.Place.{Place}
 use Rattle.memory.proofs.Looks.{looked}
 use Rattle.counting.specs.declared.picking.Course.{Course}
 use Rattle.counting.specs.declared.picking.Spot.{Spot}
-use Rattle.counting.specs.declared.picking.Turn.TheVariants.{Ends, Passes, Takes}
+use Rattle.counting.specs.declared.picking.Turn.TheVariants.{Passes, Takes}
 use Rattle.counting.specs.declared.tallying.Tally.{Tally}
 use Rattle.counting.specs.Tallies.{Counted, Tallied, held, vacant}
 use Rattle.counting.specs.Picks.{Short, Writes}
 use Rattle.counting.specs.Courses.{Stands, Leads, code_at, whole}
-use Rattle.counting.proofs.Sizes.{read_codes, at_terminal}
-use Rattle.counting.proofs.Nths.{nth_in, nth_some, nth_blank, turn_inner, turn_outer, outer_stands}
+use Rattle.counting.proofs.Sizes.{read_codes}
+use Rattle.counting.proofs.Nths.{nth_in, turn_inner, turn_outer, outer_stands}
 
 module _ {S : Type 0} (before : S → S → Bool) (order : Order before) (vs : List (Vertex S)) (formed : Formed before vs) (spot : Spot) (stands : Stands vs spot) where
-  pub turn_terminal : look vs spot.list ≡ None → Leads vs spot Ends
-  turn_terminal e =
-      at_terminal vs spot.list stands.0 e (λ m. spot.before < length (ordered (codes vs m)) → slice_get (ordered (codes vs m)) spot.before ≡ Some [])
-      (λ h. absurd (omega arith))
-      (λ h. let z : spot.before ≡ 0 = omega arith in ap (slice_get ([] ∷ [])) z)
-      stands.1
-
   module _ (work : List Place) (tallied : Tallied vs (spot.list + 1) work) (here : Tally) (here_is : here ≡ held (get_or work spot.list vacant)) (empty : ℕ) (empty_is : empty ≡ bool_byte here.empty) where
     empties : empty ≡ bool_byte (blank_in (codes vs spot.list))
     empties = empty_is ∙ ap bool_byte (ap (λ (r : Tally). r.empty) here_is ∙ (tallied spot.list (omega arith)).blank)
-
-    pub turn_empty : spot.before < empty → Leads vs spot Ends
-    turn_empty h = nth_blank (codes vs spot.list) spot.before (subst (λ m. spot.before < m) empties h)
 
     module _ (t : S × ℕ × ℕ) (read : Some t ≡ option_map parts (look vs spot.list)) (later : ℕ) (at_k : spot.before ≡ empty + later) where
       begins : codes vs spot.list ≡ begun t.0 (codes vs t.1) (codes vs t.2)
@@ -100,14 +90,6 @@ whole_takes {S} vs course out after a inner inside put e =
     by : (o : Option (List S)) → option_map (λ c. take (course.length + 1) (set out course.length a) ++ c) o ≡ option_map (λ c. take course.length out ++ c) (option_map (λ c. a ∷ c) o)
     by None = refl
     by (Some c) = ap Some (ap (λ w. w ++ c) (take_more_set out course.length a inside) ∙ append_assoc (take course.length out) (a ∷ []) c)
-
--- a label that would be the 65th
-pub over_long : {S : Type 0} (vs : List (Vertex S)) (course : Course) (a : S) (inner : Spot) → 64 ≤ course.length → Stands vs inner →
-    code_at vs course.rest ≡ option_map (λ c. a ∷ c) (code_at vs inner) →
-    (c : List S) × (code_at vs course.rest ≡ Some c) × ((c ≡ []) ⊎ (64 < course.length + length c))
-over_long vs course a inner full stands e =
-    let r = nth_some (ordered (codes vs inner.list)) inner.before stands.1 in
-    (a ∷ r.0, e ∙ ap (option_map (λ c. a ∷ c)) r.1, inr (omega arith))
 
 -- where the walk ends, the code is written
 pub whole_writes : {S : Type 0} (before : S → S → Bool) (order : Order before) (vs : List (Vertex S)) (course : Course) (t : Codes S) (k : ℕ) (entry out : List S) →

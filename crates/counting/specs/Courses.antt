@@ -1,11 +1,13 @@
 -- How a pick comes to its code, turn by turn: a means of the proofs.
-use Rattle.std.specs.Prelude.{◌≡◌, ℕ, ◌+◌, ◌<◌, ◌≤◌, ◌⊎◌, List, [], ◌∷◌, ◌++◌, length, take, drop, Some, None, Option}
+use Rattle.std.specs.Prelude.{◌≡◌, ℕ, ◌+◌, ◌<◌, ◌≤◌, Bool, ◌⊎◌, List, [], ◌∷◌, ◌++◌, length, take, drop, Some, None, Option}
 use Rattle.std.specs.List.{slice_get}
 use Rattle.std.specs.Option.{option_map}
 use Rattle.ledger.specs.declared.Vertex.{Vertex}
-use Rattle.ledger.specs.Diagrams.{Good}
+use Rattle.ledger.specs.Diagrams.{Good, Sound}
 use Rattle.ledger.specs.Ledger.{codes}
 use Rattle.ledger.specs.Ordered.{ordered}
+use Rattle.memory.specs.declared.work.Place.{Place}
+use Rattle.counting.specs.Tallies.{Tallied}
 use Rattle.counting.specs.declared.picking.Course.{Course}
 use Rattle.counting.specs.declared.picking.Spot.{Spot}
 use Rattle.counting.specs.declared.picking.Turn.{Turn}
@@ -23,6 +25,10 @@ AtMost before (Some left) = left ≤ before
 -- there is such a code
 abbrev pub Stands : {S : Type 0} → List (Vertex S) → Spot → Type 0
 Stands vs spot = Good vs spot.list × (spot.before < length (ordered (codes vs spot.list)))
+
+-- there is such a code on a sound shelf, and the lists up to its own are tallied
+abbrev pub Walked : {S : Type 0} → (S → S → Bool) → List (Vertex S) → Spot → List Place → Type 0
+Walked before vs spot work = Sound before vs × Tallied vs (spot.list + 1) work × Stands vs spot
 
 -- that code
 abbrev pub code_at : {S : Type 0} → List (Vertex S) → Spot → Option (List S)

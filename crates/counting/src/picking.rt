@@ -5,9 +5,9 @@ ghost use Rattle.std.specs.Prelude.{◌≡◌, ℕ, ◌+◌, ◌<◌, ◌≤◌,
 ghost use Rattle.ledger.specs.Diagrams.{Good, Sound};
 ghost use Rattle.ledger.specs.Ledger.{codes};
 ghost use Rattle.ledger.specs.Ordered.{ordered};
-ghost use Rattle.counting.specs.Tallies.{Counted, Tallied};
+ghost use Rattle.counting.specs.Tallies.{Counted};
 ghost use Rattle.counting.specs.Picks.{Picked, PickKeeps, Short, Writes};
-ghost use Rattle.counting.specs.Courses.{Advances, AtMost, Falls, Keeps, Leads, LeftOf, Lower, Stands};
+ghost use Rattle.counting.specs.Courses.{Advances, AtMost, Falls, Keeps, Leads, LeftOf, Lower, Walked};
 
 use crate::tallying::{tally_at, tally_up_to};
 use memory::reading::read_vertex;
@@ -54,9 +54,8 @@ fn left_of(before: u64, these: Option<u64>) -> Option<u64>
 
 // What this code is.
 fn turn_at<S: Symbol, B: Shelf<S>>(shelf: &B, spot: Spot, work: &[Place]) -> Turn<S>
-    requires { spot.list < length work.now }
     ensures below { Lower spot result }
-    ensures value { Sound S.Symbol.before (B.Shelf.vertices shelf.now) → Tallied (B.Shelf.vertices shelf.now) (spot.list + 1) work.now → Stands (B.Shelf.vertices shelf.now) spot → Leads (B.Shelf.vertices shelf.now) spot result }
+    ensures value { Walked S.Symbol.before (B.Shelf.vertices shelf.now) spot work.now → Leads (B.Shelf.vertices shelf.now) spot result }
 {
     let Some((label, zero, one)) = read_vertex(shelf, spot.list) else {
         return Turn::Ends;
@@ -87,12 +86,11 @@ fn advance<S: Symbol, B: Shelf<S>>(
     out: &mut [S],
     work: &[Place],
 ) -> Option<Course>
-    requires room { course.rest.list < length work.now }
     requires within { course.length ≤ 64 }
     requires output { 64 ≤ length out.old }
     ensures below { Falls course result }
     ensures kept { Keeps out.old result out.new }
-    ensures value { Sound S.Symbol.before (B.Shelf.vertices shelf.now) → Tallied (B.Shelf.vertices shelf.now) (course.rest.list + 1) work.now → Stands (B.Shelf.vertices shelf.now) course.rest → Advances (B.Shelf.vertices shelf.now) course out.old result out.new }
+    ensures value { Walked S.Symbol.before (B.Shelf.vertices shelf.now) course.rest work.now → Advances (B.Shelf.vertices shelf.now) course out.old result out.new }
 {
     match turn_at(shelf, course.rest, work) {
         Turn::Ends => None,
@@ -115,10 +113,9 @@ fn advance<S: Symbol, B: Shelf<S>>(
 
 // Writes a code to the start of `out`, and answers its length.
 fn write_code<S: Symbol, B: Shelf<S>>(shelf: &B, spot: Spot, out: &mut [S], work: &[Place]) -> usize
-    requires room { spot.list < length work.now }
     requires output { 64 ≤ length out.old }
     ensures kept { (result ≤ 64) × (drop result out.new ≡ drop result out.old) }
-    ensures value { Sound S.Symbol.before (B.Shelf.vertices shelf.now) → Tallied (B.Shelf.vertices shelf.now) (spot.list + 1) work.now → Stands (B.Shelf.vertices shelf.now) spot → Short (codes (B.Shelf.vertices shelf.now) spot.list) → Writes (ordered (codes (B.Shelf.vertices shelf.now) spot.list)) spot.before out.old result out.new }
+    ensures value { Walked S.Symbol.before (B.Shelf.vertices shelf.now) spot work.now → Short (codes (B.Shelf.vertices shelf.now) spot.list) → Writes (ordered (codes (B.Shelf.vertices shelf.now) spot.list)) spot.before out.old result out.new }
 {
     let mut course = Course {
         rest: spot,

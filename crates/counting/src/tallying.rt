@@ -44,12 +44,11 @@ impl From<Place> for Tally {
     }
 }
 
-// The tally of a list that was counted.
+// The tally in a list's place; past the places, that of a blank one.
 pub(crate) fn tally_at(work: &[Place], n: u32) -> Tally
-    requires { n < length work.now }
     ensures { result ≡ held (slice_index_or work.now n vacant) }
 {
-    Tally::from(work[n as usize])
+    Tally::from(work.get(n as usize).copied().unwrap_or_default())
 }
 
 // A sum of two counts.
@@ -61,7 +60,6 @@ fn total(first: Option<u64>, second: Option<u64>) -> Option<u64>
 
 // The tally of a list, from those of all lower numbers.
 fn tally_of<S: Symbol, B: Shelf<S>>(shelf: &B, n: u32, work: &[Place]) -> Tally
-    requires { n < length work.now }
     ensures { Sound S.Symbol.before (B.Shelf.vertices shelf.now) → Good (B.Shelf.vertices shelf.now) n → Tallied (B.Shelf.vertices shelf.now) n work.now → Tells (codes (B.Shelf.vertices shelf.now) n) result }
 {
     let Some((_, zero, one)) = read_vertex(shelf, n) else {

@@ -86,9 +86,6 @@ numbering_more ps qs count i p d h e f q =
     each k b l (inl s) = rw (s, get_or-set_same qs i p b h, f) (let c = q.counted in omega arith)
     each k b l (inr s) = rw (get_or-set_other qs i k p b s) (q.numbers k b (omega arith))
 
-pub numbering_all : (ps qs : List Place) (count i : ℕ) → length ps ≤ i → Numbering ps qs count i → Renumbered ps qs
-numbering_all ps qs count i h q k d l = q.numbers k d (omega arith)
-
 -- the places have numbers, so a link's is read there
 number_read : (ps : List Place) (k other : ℕ) (p : Place) → k < length ps → number_at ps k other ≡ (get_or ps k p).number
 number_read [] k other p h = absurd (omega arith)
@@ -99,11 +96,6 @@ number_past : (ps : List Place) (k other : ℕ) → length ps ≤ k → number_a
 number_past [] k other h = refl
 number_past (q ∷ ps) zero other h = absurd (omega arith)
 number_past (q ∷ ps) (suc k) other h = number_past ps k other (omega arith)
-
-pub noted_low : (ps : List Place) (n : ℕ) → n < 2 → n ≡ noted ps n
-noted_low ps zero h = refl
-noted_low ps (suc zero) h = refl
-noted_low ps (suc (suc k)) h = absurd (omega arith)
 
 pub noted_read : (ps : List Place) (n : ℕ) (p : Place) → 2 ≤ n → n - 2 < length ps → p ≡ get_or ps (n - 2) p → p.number ≡ noted ps n
 noted_read ps zero p l h e = absurd (omega arith)

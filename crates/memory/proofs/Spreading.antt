@@ -1,8 +1,8 @@
 -- One more mark: what is marked then, and what was.
-use Rattle.std.proofs.Common.{◌≡◌, ℕ, zero, suc, ◌+◌, ◌-◌, ◌<◌, ◌≤◌, Bool, true, false, ◌⊎◌, List, [], ◌∷◌, length, get_or, drop, set, replicate, sym, refl, ap, ◌∙◌, inl, inr, arith}
+use Rattle.std.proofs.Common.{◌≡◌, ℕ, zero, suc, ◌+◌, ◌-◌, ◌≤◌, Bool, true, false, ◌⊎◌, List, [], ◌∷◌, length, get_or, set, replicate, refl, ap, ◌∙◌, inl, inr, arith}
 use mathlib.Core.List.{Memᴰ}
 use mathlib.Core.Path.{subst⁻¹}
-use Rattle.std.proofs.lemmas.List.{at_drop_all, at_drop_more, get_or-set_same, length-set, map-set}
+use Rattle.std.proofs.lemmas.List.{get_or-set_same, length-set, map-set}
 use Rattle.ledger.specs.Gather.{Marked}
 use Rattle.memory.specs.declared.work.Place.{Place}
 use Rattle.memory.specs.Shelves.{is_mark, marks_in}
@@ -100,11 +100,3 @@ unmarked_all ps n p u e k = ap (λ qs. get_or (marks_in qs) k false) e ∙ by n 
     by zero k = refl
     by (suc n) zero = u
     by (suc n) (suc k) = by n k
-
--- a pass over the lists to mark
-pub each_more : (ns : List ℕ) (ms after : List Bool) (i : ℕ) → i < length ns → after ≡ with_mark ms (get_or ns i 0) →
-    with_marks after (drop (i + 1) ns) ≡ with_marks ms (drop i ns)
-each_more ns ms after i h e = ap (λ bs. with_marks bs (drop (i + 1) ns)) e ∙ sym (at_drop_more (with_marks ms) ns i 0 h)
-
-pub each_all : (ns : List ℕ) (ms : List Bool) (i : ℕ) → length ns ≤ i → with_marks ms (drop i ns) ≡ ms
-each_all ns ms i h = at_drop_all (with_marks ms) ns i h
