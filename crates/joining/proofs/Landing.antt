@@ -1,5 +1,5 @@
 -- A list that a walk has laid down, or that did not fit, as the ledger says it.
-use Rattle.std.proofs.Common.{◌≡◌, ℕ, ◌≤◌, Bool, List, ◌++◌, length, take, None, Ok, Err, Option, Result, sym, ap, ◌∙◌, arith}
+use Rattle.std.proofs.Common.{◌≡◌, ℕ, ◌≤◌, Bool, List, ◌++◌, length, take, None, Ok, Err, Option, Result, false, is_err, sym, ap, ◌∙◌, arith}
 use mathlib.Core.Path.{subst⁻¹}
 use Rattle.std.proofs.lemmas.List.{take_at}
 use Rattle.symbols.specs.Order.{Order}
@@ -15,6 +15,7 @@ use Rattle.memory.specs.declared.recall.Question.{Question}
 use Rattle.memory.specs.declared.shelf.Full.{Full}
 use Rattle.joining.specs.Recalled.{Right}
 use Rattle.joining.specs.Pairs.{joint}
+use Rattle.joining.specs.Walks.{Walked}
 use Rattle.joining.specs.declared.pairs.Pair.{Pair}
 use Rattle.joining.proofs.Growing.{joint_proper}
 
@@ -26,6 +27,14 @@ module _ {S : Type 0} (before : S → S → Bool) (order : Order before) where
       let l = (pictured before order ws laid.sound).long in
       let m = ap length laid.row in
       (omega arith, is.0, is.1)
+
+  -- a walk that did not fail
+  pub walked_lays : (capacity : ℕ) (vs : List (Vertex S)) (t : Codes S) (r : Result ℕ Full) (ws : List (Vertex S)) (table : Question → Option ℕ) → Walked before capacity vs t r ws table → is_err r ≡ false → length ws ≤ capacity →
+      (us : List (Vertex S)) (after : Question → Option ℕ) → us ≡ ws → after ≡ table → Lays before capacity vs t r us × Right before us after
+  walked_lays capacity vs t (Ok n) ws table w ok room us after e d =
+      subst⁻¹ (λ (x : List (Vertex S)). Lays {F = Full} before capacity vs t (Ok n) x × Right before x after) e
+      (subst⁻¹ (λ (x : Question → Option ℕ). Lays {F = Full} before capacity vs t (Ok n) ws × Right before ws x) d (lands capacity vs t ws n room w.0, w.1))
+  walked_lays capacity vs t (Err e) ws table w ok room us after d b = cc
 
   -- laying down keeps vertices sound
   pub lays_sound : {F : Type 0} (capacity : ℕ) (vs : List (Vertex S)) (t : Codes S) (r : Result ℕ F) (ws : List (Vertex S)) → Sound before vs → Proper before t → Lays before capacity vs t r ws → Sound before ws
