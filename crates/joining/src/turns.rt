@@ -63,7 +63,7 @@ impl<'s, 'r, 'w, S: Symbol, B: Shelf<S>, R: RecallTable> Walk<'s, 'r, 'w, S, B, 
             return Turn::Answer(n);
         }
         // two numbers that are neither 0 nor equal can be taken apart, unless one of them is no good number
-        let Some(split) = take_apart(&*self.shelf, pair) else {
+        let Some(split) = take_apart(self.shelf, pair) else {
             return Turn::Answer(0);
         };
         self.stack.push(Place::from(Frame {
@@ -86,7 +86,7 @@ impl<'s, 'r, 'w, S: Symbol, B: Shelf<S>, R: RecallTable> Walk<'s, 'r, 'w, S, B, 
         ensures size { B.Shelf.capacity self.new.shelf.now ≡ B.Shelf.capacity self.old.shelf.now }
     {
         // a pair that waits was taken apart once, and vertices do not change: no frame of a sound shelf is let go here
-        let Some(split) = take_apart(&*self.shelf, frame.pair) else {
+        let Some(split) = take_apart(self.shelf, frame.pair) else {
             return Ok(Turn::Answer(0));
         };
         match frame.stage {
@@ -98,7 +98,7 @@ impl<'s, 'r, 'w, S: Symbol, B: Shelf<S>, R: RecallTable> Walk<'s, 'r, 'w, S, B, 
                 Ok(Turn::Meet(split.inner))
             }
             Stage::Inner(zero) => {
-                let number = couple(&mut *self.shelf, split.label, zero, n)?;
+                let number = couple(self.shelf, split.label, zero, n)?;
                 self.recall.tell(question(self.rule, frame.pair), number);
                 Ok(Turn::Answer(number))
             }
