@@ -4,5 +4,4 @@ pub mod Growing
 pub mod Coupling
 pub mod Stacks
 pub mod Turning
-pub mod Refused
 pub mod Landing

@@ -1,5 +1,5 @@
 -- What each turn of the walk does to what the walk stands for.
-use Rattle.std.proofs.Common.{◌≡◌, ℕ, ◌+◌, ◌-◌, ◌<◌, Bool, ◌≢◌, ◌⊎◌, List, [], ◌++◌, length, set, Some, None, Ok, Err, Option, Result, sym, refl, ap, ◌∙◌, subst, inl, inr, append_assoc, append-nil, arith}
+use Rattle.std.proofs.Common.{◌≡◌, ℕ, ◌<◌, Bool, ◌≢◌, ◌⊎◌, List, [], ◌∷◌, ◌++◌, length, Some, None, Ok, Err, Option, Result, sym, refl, ap, ◌∙◌, subst, inl, inr, append_assoc, append-nil, arith}
 use mathlib.Core.Path.{subst⁻¹}
 use Rattle.symbols.specs.Order.{Order}
 use Rattle.ledger.specs.declared.Vertex.{Vertex}
@@ -13,23 +13,23 @@ use Rattle.ledger.proofs.Laying.{laid_known}
 use Rattle.ledger.proofs.Reading.{none_some, some_same}
 use Rattle.memory.specs.declared.recall.Question.{Question}
 use Rattle.memory.specs.declared.shelf.Full.{Full}
-use Rattle.memory.specs.declared.work.Place.{Place}
 use Rattle.memory.specs.Tables.{Told}
 use Rattle.joining.specs.Recalled.{Right, RightEntry}
 use Rattle.joining.specs.Pairs.{asked, joint, Settled, apart}
-use Rattle.joining.specs.Frames.{place_of, frame_at}
-use Rattle.joining.specs.Walks.{meeting, answered, Waits, Held, Stack, Running, Coupled}
+use Rattle.joining.specs.Walks.{Waits, Held, Stack, Running, Coupled}
 use Rattle.joining.specs.declared.pairs.Pair.{Pair}
 use Rattle.joining.specs.declared.pairs.Split.{Split}
 use Rattle.joining.specs.declared.frames.Frame.{Frame}
 use Rattle.joining.specs.declared.frames.Stage.{Stage}
 use Rattle.joining.specs.declared.frames.Stage.TheVariants.{Outer, Inner}
+use Rattle.joining.specs.declared.turns.Turn.{Turn}
+use Rattle.joining.specs.declared.turns.Turn.TheVariants.{Meet, Answer}
 use Rattle.joining.proofs.Splits.{Parted, parted_is, parted_some}
 use Rattle.joining.proofs.Growing.{good_front, apart_front, joint_front, right_front, joint_proper, settled_good, settled_is}
 use Rattle.joining.proofs.Coupling.{Couples, couples}
-use Rattle.joining.proofs.Stacks.{Over, stack_push, stack_top, stack_longer}
+use Rattle.joining.proofs.Stacks.{stack_longer}
 
-module _ {S : Type 0} (before : S → S → Bool) (order : Order before) (old : List (Vertex S)) (rule : ℕ) (goal : Codes S) (vs : List (Vertex S)) (table : Question → Option ℕ) (places : List Place) (height : ℕ) where
+module _ {S : Type 0} (before : S → S → Bool) (order : Order before) (old : List (Vertex S)) (rule : ℕ) (goal : Codes S) (vs : List (Vertex S)) (table : Question → Option ℕ) (frames : List Frame) where
   -- the old vertices are the first of these
   module _ (sound : Sound before vs) (more : List (Vertex S)) (extends : vs ≡ old ++ more) where
     old_sound : Sound before old
@@ -45,9 +45,9 @@ module _ {S : Type 0} (before : S → S → Bool) (order : Order before) (old : 
     old_apart pair first second = ap (λ (us : List (Vertex S)). apart before us pair) extends ∙ apart_front before order old more pair first second
 
   -- a pair is met
-  module _ (pair : Pair) (R : Running before old rule goal vs table places (meeting height pair)) where
+  module _ (pair : Pair) (R : Running before old rule goal vs table frames (Meet pair)) where
     abbrev Known : ℕ → Type 0
-    Known n = Running before old rule goal vs table places (answered height n)
+    Known n = Running before old rule goal vs table frames (Answer n)
 
     first : Good old pair.first
     first = R.stands.0
@@ -85,9 +85,8 @@ module _ {S : Type 0} (before : S → S → Bool) (order : Order before) (old : 
           parted_some before order old (old_sound R.sound R.more R.extends) (takes rule) pair first second first_some second_some ne
           (sym (old_apart R.sound R.more R.extends pair first second) ∙ e)
 
-      pub turn_push : (s : Split S) → apart before vs pair ≡ Some s → height < length places →
-          Running before old rule goal vs table (set places height (place_of (record { pair = pair; stage = Outer }))) (meeting (height + 1) s.outer)
-      turn_push s e room =
+      pub turn_push : (s : Split S) → apart before vs pair ≡ Some s → (after : List Frame) → after ≡ record { pair = pair; stage = Outer } ∷ frames → Running before old rule goal vs table after (Meet s.outer)
+      turn_push s e after top =
           let is = sym (old_apart R.sound R.more R.extends pair first second) ∙ e in
           let p : Parted before order old (old_sound R.sound R.more R.extends) (takes rule) pair s =
           parted_is before order old (old_sound R.sound R.more R.extends) (takes rule) pair first second first_some second_some s is in
@@ -103,21 +102,22 @@ module _ {S : Type 0} (before : S → S → Bool) (order : Order before) (old : 
             is = is;
             waits = (refl, refl);
           } in
-          record {
+          subst⁻¹ (λ (fs : List Frame). Running before old rule goal vs table fs (Meet s.outer)) top
+          (record {
             sound = R.sound;
             more = R.more;
             extends = R.extends;
             right = R.right;
-            stands = (p.outer_first, p.outer_second, stack_push before order old rule goal places height f vs (joint before old rule s.outer) room (h, R.stands.2));
-          }
+            stands = (p.outer_first, p.outer_second, (h, R.stands.2));
+          })
 
   -- a number comes back to the top frame
-  module _ (n : ℕ) (some : 0 < height) (f : Frame) (top : f ≡ frame_at places (height - 1)) (R : Running before old rule goal vs table places (answered height n)) where
+  module _ (n : ℕ) (f : Frame) (R : Running before old rule goal vs table (f ∷ frames) (Answer n)) where
     come : Laid before R.stands.0 R.stands.1 vs n
     come = R.stands.3
 
-    over : Over before order old rule goal places (height - 1) R.stands.0 R.stands.1 f
-    over = subst⁻¹ (Over before order old rule goal places (height - 1) R.stands.0 R.stands.1) top (stack_top before order old rule goal places height R.stands.0 R.stands.1 some R.stands.2)
+    over : Stack before old rule goal (f ∷ frames) R.stands.0 R.stands.1
+    over = R.stands.2
 
     same_apart : apart before vs f.pair ≡ apart before old f.pair
     same_apart = old_apart R.sound R.more R.extends f.pair over.0.first over.0.second
@@ -135,9 +135,8 @@ module _ {S : Type 0} (before : S → S → Bool) (order : Order before) (old : 
           (sym same_apart ∙ e)
 
       -- on to the inner pair
-      pub turn_inner : f.stage ≡ Outer → height - 1 < length places →
-          Running before old rule goal vs table (set places (height - 1) (place_of (record { pair = f.pair; stage = Inner n }))) (meeting height s.inner)
-      turn_inner stage room =
+      pub turn_inner : f.stage ≡ Outer → (after : List Frame) → after ≡ record { pair = f.pair; stage = Inner n } ∷ frames → Running before old rule goal vs table after (Meet s.inner)
+      turn_inner stage after top =
           let w : (R.stands.0 ≡ over.0.base) × (R.stands.1 ≡ joint before old rule over.0.part.outer) =
           subst (λ (x : Stage). Waits before old rule over.0.part over.0.base x R.stands.0 R.stands.1) stage over.0.waits in
           let t_is : R.stands.1 ≡ joint before old rule s.outer = w.1 ∙ ap (λ (x : Split S). joint before old rule x.outer) part_is in
@@ -155,19 +154,14 @@ module _ {S : Type 0} (before : S → S → Bool) (order : Order before) (old : 
             is = sym same_apart ∙ e;
             waits = (laid, refl);
           } in
-          let back : height - 1 + 1 ≡ height = omega arith in
-          record {
+          subst⁻¹ (λ (fs : List Frame). Running before old rule goal vs table fs (Meet s.inner)) top
+          (record {
             sound = R.sound;
             more = R.more;
             extends = R.extends;
             right = R.right;
-            stands = (
-              parted.inner_first,
-              parted.inner_second,
-              subst (λ (k : ℕ). Stack before old rule goal (set places (height - 1) (place_of g)) k vs (joint before old rule s.inner)) back
-                  (stack_push before order old rule goal places (height - 1) g vs (joint before old rule s.inner) room (h, over.1)),
-            );
-          }
+            stands = (parted.inner_first, parted.inner_second, (h, over.1));
+          })
 
       -- the frame's own vertex
       module _ (low capacity : ℕ) (stage : f.stage ≡ Inner low) (ws : List (Vertex S)) where
@@ -190,12 +184,12 @@ module _ {S : Type 0} (before : S → S → Bool) (order : Order before) (old : 
         pub turn_full : (e : Full) → Coupled capacity vs s.label low n (Err e) ws → (capacity < length (lay before (lists old) goal)) × ((more : List (Vertex S)) × (ws ≡ old ++ more))
         turn_full full c =
             let o = outcome (Err full) c in
-            let l = stack_longer before order old rule goal (old_sound R.sound R.more R.extends) places (height - 1) over.0.base (joint before old rule f.pair) over.1 in
+            let l = stack_longer before order old rule goal (old_sound R.sound R.more R.extends) frames over.0.base (joint before old rule f.pair) over.1 in
             let h = o.0 in
             (omega arith, (R.more, o.1 ∙ R.extends))
 
         pub turn_couple : (m : ℕ) (told : Question → Option ℕ) → Coupled capacity vs s.label low n (Ok m) ws → Told table (asked rule f.pair) m told →
-            Running before old rule goal ws told places (answered (height - 1) m)
+            Running before old rule goal ws told frames (Answer m)
         turn_couple m told c tells =
             let o = outcome (Ok m) c in
             let laid : Laid before over.0.base (joint before old rule f.pair) ws m = o.0 in
@@ -228,18 +222,22 @@ module _ {S : Type 0} (before : S → S → Bool) (order : Order before) (old : 
             entry q k right mine (inr is) =
                 subst⁻¹ (λ (x : Question). RightEntry before ws x k) is.0 (subst⁻¹ (λ (x : ℕ). RightEntry before ws (asked rule f.pair) x) is.1 mine)
 
--- the walk begins
-pub begins : {S : Type 0} (before : S → S → Bool) (vs : List (Vertex S)) (rule : ℕ) (table : Question → Option ℕ) (places : List Place) (pair : Pair) →
-    Sound before vs → Good vs pair.first → Good vs pair.second → Right before vs table →
-    Running before vs rule (joint before vs rule pair) vs table places (meeting 0 pair)
-unfolding Stack
-begins before vs rule table places pair sound first second right =
-    record { sound = sound; more = []; extends = sym (append-nil vs); right = right; stands = (first, second, (refl, refl)) }
+module _ {S : Type 0} (before : S → S → Bool) (old : List (Vertex S)) (rule : ℕ) (goal : Codes S) (table : Question → Option ℕ) (frames : List Frame) where
+  -- the same frames and the same turn
+  pub at_turn : (vs : List (Vertex S)) (after : List Frame) (turn next : Turn) → frames ≡ after → turn ≡ next → Running before old rule goal vs table frames turn → Running before old rule goal vs table after next
+  at_turn vs after turn next same is R =
+      subst (λ (x : Turn). Running before old rule goal vs table after x) is (subst (λ (fs : List Frame). Running before old rule goal vs table fs turn) same R)
 
--- and ends
-pub ends : {S : Type 0} (before : S → S → Bool) (old : List (Vertex S)) (rule : ℕ) (goal : Codes S) (vs : List (Vertex S)) (table : Question → Option ℕ) (places : List Place) (n : ℕ) →
-    Running before old rule goal vs table places (answered 0 n) → Laid before old goal vs n
-unfolding Stack
-ends before old rule goal vs table places n R =
-    let s = R.stands.2 in
-    subst (λ us. Laid before us goal vs n) s.0 (subst (λ t. Laid before R.stands.0 t vs n) s.1 R.stands.3)
+  -- the walk ends
+  pub ends : (vs : List (Vertex S)) (turn : Turn) (n : ℕ) → frames ≡ [] → turn ≡ Answer n → Running before old rule goal vs table frames turn → Laid before old goal vs n × Right before vs table
+  ends vs turn n none is R =
+      let Q = at_turn vs [] turn (Answer n) none is R in
+      let s = Q.stands.2 in
+      (subst (λ (us : List (Vertex S)). Laid before us goal vs n) s.0 (subst (λ (t : Codes S). Laid before Q.stands.0 t vs n) s.1 Q.stands.3), Q.right)
+
+-- and begins
+pub begins : {S : Type 0} (before : S → S → Bool) (vs : List (Vertex S)) (rule : ℕ) (table : Question → Option ℕ) (pair : Pair) (frames : List Frame) → frames ≡ [] →
+    Sound before vs → Good vs pair.first → Good vs pair.second → Right before vs table → Running before vs rule (joint before vs rule pair) vs table frames (Meet pair)
+begins before vs rule table pair frames none sound first second right =
+    subst⁻¹ (λ (fs : List Frame). Running before vs rule (joint before vs rule pair) vs table fs (Meet pair)) none
+    (record { sound = sound; more = []; extends = sym (append-nil vs); right = right; stands = (first, second, (refl, refl)) })

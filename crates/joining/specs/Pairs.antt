@@ -31,18 +31,21 @@ abbrev pub Settles : ℕ → Pair → Option ℕ → Type 0
 Settles rule pair (Some n) = Settled rule pair n
 Settles rule pair None = (0 < pair.first) × (0 < pair.second) × (pair.first ≢ pair.second)
 
--- a pair taken apart by the vertices of its numbers: the earlier label, the pair of outer and the pair of inner lists
+-- two lists parted by a label: of each list, what is outer and what is inner
+abbrev pub parted_at : {S : Type 0} → S → ℕ × ℕ → ℕ × ℕ → Split S
+parted_at label first second =
+    record { label = label; outer = record { first = first.0; second = second.0 }; inner = record { first = first.1; second = second.1 } }
+
+-- a pair taken apart by the vertices of its numbers: the earlier label, the pair of outer and the pair of inner lists; a
+-- list without the label as its head has itself outside, and list 0 inside
 abbrev pub first_alone : {S : Type 0} → Pair → S × ℕ × ℕ → Split S
-first_alone pair v =
-    record { label = v.0; outer = record { first = v.1; second = pair.second }; inner = record { first = v.2; second = 0 } }
+first_alone pair v = parted_at v.0 (v.1, v.2) (pair.second, 0)
 
 abbrev pub second_alone : {S : Type 0} → Pair → S × ℕ × ℕ → Split S
-second_alone pair w =
-    record { label = w.0; outer = record { first = pair.first; second = w.1 }; inner = record { first = 0; second = w.2 } }
+second_alone pair w = parted_at w.0 (pair.first, 0) (w.1, w.2)
 
 abbrev pub both_heads : {S : Type 0} → S × ℕ × ℕ → S × ℕ × ℕ → Split S
-both_heads v w =
-    record { label = v.0; outer = record { first = v.1; second = w.1 }; inner = record { first = v.2; second = w.2 } }
+both_heads v w = parted_at v.0 (v.1, v.2) (w.1, w.2)
 
 abbrev pub by_heads : {S : Type 0} → (S → S → Bool) → Pair → S × ℕ × ℕ → S × ℕ × ℕ → Split S
 by_heads before pair v w =

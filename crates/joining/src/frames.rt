@@ -1,7 +1,7 @@
 // A frame: a pair that is being joined, kept in a place of work space. The place's `list` and `other` are the pair. Its
 // `state` is 0 while the outer lists are being joined; after that `number` is their number.
-ghost use Rattle.std.specs.Prelude.{◌≡◌, ◌<◌, length, slice_set};
-ghost use Rattle.joining.specs.Frames.{frame_of, place_of, frame_at};
+ghost use Rattle.std.specs.Prelude.{◌≡◌};
+ghost use Rattle.joining.specs.Frames.{frame_of};
 
 use crate::pairs::Pair;
 use memory::work::Place;
@@ -39,7 +39,7 @@ impl From<Place> for Frame {
 }
 
 impl From<Frame> for Place {
-    ghost from_gives = { λ frame place. place ≡ place_of frame };
+    ghost from_gives = { λ frame place. frame_of place ≡ frame };
 
     fn from(frame: Frame) -> Place {
         let Pair { first, second } = frame.pair;
@@ -55,18 +55,4 @@ impl From<Frame> for Place {
             ..Place::default()
         }
     }
-}
-
-pub(crate) fn read_frame(work: &[Place], i: usize) -> Frame
-    requires { i < length work.now }
-    ensures { result ≡ frame_at work.now i }
-{
-    Frame::from(work[i])
-}
-
-pub(crate) fn write_frame(work: &mut [Place], i: usize, frame: Frame)
-    requires { i < length work.old }
-    ensures { work.new ≡ slice_set work.old i (place_of frame) }
-{
-    work[i] = Place::from(frame);
 }

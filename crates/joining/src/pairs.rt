@@ -2,7 +2,7 @@
 ghost use Rattle.std.specs.Prelude.{◌≡◌, ◌<◌, true, false, if◌then◌else◌};
 ghost use Rattle.ledger.specs.Diagrams.{Formed};
 ghost use Rattle.joining.specs.Rules.{number_of};
-ghost use Rattle.joining.specs.Pairs.{Settles, Falls, parted, apart, asked, first_alone, second_alone, by_heads};
+ghost use Rattle.joining.specs.Pairs.{Settles, Falls, parted_at, parted, apart, asked, by_heads};
 
 use crate::rule::Rule;
 use memory::reading::read_vertex;
@@ -64,63 +64,37 @@ pub fn shortcut(rule: Rule, pair: Pair) -> Option<u32>
     }
 }
 
-// The head is the first list's alone.
-fn first_alone<S: Symbol>(pair: Pair, vertex: (S, u32, u32)) -> Split<S>
-    ensures { result ≡ first_alone pair vertex }
+// The two lists parted by a label: a list that has it as its head gives its zero and its one link, another gives itself
+// and 0.
+fn part_at<S: Symbol>(label: S, first: (u32, u32), second: (u32, u32)) -> Split<S>
+    ensures { result ≡ parted_at label first second }
 {
-    let (label, zero, one) = vertex;
     Split {
         label,
         outer: Pair {
-            first: zero,
-            second: pair.second,
+            first: first.0,
+            second: second.0,
         },
         inner: Pair {
-            first: one,
-            second: 0,
-        },
-    }
-}
-
-// The head is the second list's alone.
-fn second_alone<S: Symbol>(pair: Pair, vertex: (S, u32, u32)) -> Split<S>
-    ensures { result ≡ second_alone pair vertex }
-{
-    let (label, zero, one) = vertex;
-    Split {
-        label,
-        outer: Pair {
-            first: pair.first,
-            second: zero,
-        },
-        inner: Pair {
-            first: 0,
-            second: one,
-        },
-    }
-}
-
-// The head that comes first, or is both lists'.
-fn by_heads<S: Symbol>(pair: Pair, first: (S, u32, u32), second: (S, u32, u32)) -> Split<S>
-    ensures { result ≡ by_heads S.Symbol.before pair first second }
-{
-    if first.0.before(second.0) {
-        return first_alone(pair, first);
-    }
-    if second.0.before(first.0) {
-        return second_alone(pair, second);
-    }
-    Split {
-        label: first.0,
-        outer: Pair {
             first: first.1,
             second: second.1,
         },
-        inner: Pair {
-            first: first.2,
-            second: second.2,
-        },
     }
+}
+
+// By the head that comes first, or is both lists'.
+fn by_heads<S: Symbol>(pair: Pair, first: (S, u32, u32), second: (S, u32, u32)) -> Split<S>
+    ensures { result ≡ by_heads S.Symbol.before pair first second }
+{
+    let (a, first_zero, first_one) = first;
+    let (b, second_zero, second_one) = second;
+    if a.before(b) {
+        return part_at(a, (first_zero, first_one), (pair.second, 0));
+    }
+    if b.before(a) {
+        return part_at(b, (pair.first, 0), (second_zero, second_one));
+    }
+    part_at(a, (first_zero, first_one), (second_zero, second_one))
 }
 
 // Takes a pair apart by the vertices of its numbers; two terminals are not taken apart.
@@ -133,8 +107,8 @@ fn part_by<S: Symbol>(
 {
     match (first, second) {
         (None, None) => None,
-        (None, Some(w)) => Some(second_alone(pair, w)),
-        (Some(v), None) => Some(first_alone(pair, v)),
+        (None, Some((b, zero, one))) => Some(part_at(b, (pair.first, 0), (zero, one))),
+        (Some((a, zero, one)), None) => Some(part_at(a, (zero, one), (pair.second, 0))),
         (Some(v), Some(w)) => Some(by_heads(pair, v, w)),
     }
 }

@@ -2,16 +2,21 @@
 //
 // A turn asks the recall table once at most and reads two vertices. It reads links through `read_vertex`, so pairs only
 // get lower, and the walk ends and stays within its frames on any memory.
-ghost use Rattle.std.specs.Prelude.{◌≡◌, ◌+◌, ◌<◌};
+ghost use Rattle.std.specs.Prelude.{◌≡◌, ◌+◌, ◌<◌, ◌≤◌, [], ◌∷◌, IfOk};
 ghost use Rattle.joining.specs.Rules.{number_of};
-ghost use Rattle.joining.specs.Walks.{meeting, answered, Fits, cost, Goes, Turns, ComesDown, Coupled, Unended, Ended};
+ghost use Rattle.joining.specs.Pairs.{sum};
+ghost use Rattle.joining.specs.Frames.{waiting};
+ghost use Rattle.joining.specs.Walks.{Fits, Nearer, Goes, Turns, Coupled, Walks};
+ghost use Rattle.joining.specs.declared.turns.Turn.TheVariants.{Meet, Answer};
 
-use crate::frames::{Frame, Stage, read_frame, write_frame};
+use crate::frames::{Frame, Stage};
 use crate::pairs::{Pair, question, shortcut, take_apart};
 use crate::rule::Rule;
 use memory::recall::RecallTable;
 use memory::shelf::{Full, Shelf};
+use memory::stack::Stack;
 use memory::work::Place;
+use std::marker::PhantomData;
 use symbols::Symbol;
 
 // A pair is met, or a number comes back.
@@ -21,58 +26,14 @@ pub enum Turn {
     Answer(u32),
 }
 
-// A walk with `height` frames waiting.
-#[derive(Clone, Copy)]
-pub struct State {
-    pub height: usize,
-    pub turn: Turn,
-}
-
-// A turn at a pair: its number, or a frame for it and its outer pair.
-fn meet<S: Symbol, B: Shelf<S>, R: RecallTable>(
-    shelf: &B,
-    recall: &R,
-    rule: Rule,
-    work: &mut [Place],
-    height: usize,
-    pair: Pair,
-) -> State
-    requires { Fits work.old (meeting height pair) }
-    ensures fits { Fits work.new result }
-    ensures falls { cost work.new result < cost work.old (meeting height pair) }
-    ensures goes { Goes S.Symbol.before (number_of rule) (B.Shelf.vertices shelf.now) (R.RecallTable.table recall.now) work.old (meeting height pair) work.new result }
-{
-    if let Some(n) = shortcut(rule, pair) {
-        return State {
-            height,
-            turn: Turn::Answer(n),
-        };
-    }
-    if let Some(n) = recall.recall(question(rule, pair)) {
-        return State {
-            height,
-            turn: Turn::Answer(n),
-        };
-    }
-    // two numbers that are neither 0 nor equal can be taken apart, unless one of them is no good number
-    let Some(split) = take_apart(shelf, pair) else {
-        return State {
-            height,
-            turn: Turn::Answer(0),
-        };
-    };
-    write_frame(
-        work,
-        height,
-        Frame {
-            pair,
-            stage: Stage::Outer,
-        },
-    );
-    State {
-        height: height + 1,
-        turn: Turn::Meet(split.outer),
-    }
+// A walk over pairs: the shelf and the recall table, the rule, and the frames that wait.
+#[derive(Drop)]
+pub struct Walk<'s, 'r, 'w, S, B, R> {
+    pub shelf: &'s mut B,
+    pub recall: &'r mut R,
+    pub rule: Rule,
+    pub stack: Stack<'w>,
+    pub labels: PhantomData<S>,
 }
 
 // The number of the vertex with these links, found or appended; the zero link's where the one link is 0.
@@ -87,91 +48,85 @@ fn couple<S: Symbol, B: Shelf<S>>(shelf: &mut B, label: S, zero: u32, one: u32) 
     shelf.find_or_append(label, zero, one)
 }
 
-// A turn at a number that comes back to the top frame: on to its inner pair, or the frame's own number.
-fn answer<S: Symbol, B: Shelf<S>, R: RecallTable>(
-    shelf: &mut B,
-    recall: &mut R,
-    rule: Rule,
-    work: &mut [Place],
-    height: usize,
-    n: u32,
-) -> Result<State, Full>
-    requires fits { Fits work.old (answered height n) }
-    requires some { 0 < height }
-    ensures falls { ComesDown work.old (answered height n) work.new result }
-    ensures turns { B.Shelf.ready shelf.old → Turns S.Symbol.before (number_of rule) (B.Shelf.capacity shelf.old) (B.Shelf.vertices shelf.old) (R.RecallTable.table recall.old) work.old (answered height n)
-        (B.Shelf.vertices shelf.new) (R.RecallTable.table recall.new) work.new result }
-    ensures ready { B.Shelf.ready shelf.old → B.Shelf.ready shelf.new }
-    ensures size { B.Shelf.capacity shelf.new ≡ B.Shelf.capacity shelf.old }
-{
-    let top = height - 1;
-    let frame = read_frame(work, top);
-    // a pair that waits was taken apart once, and vertices do not change: no frame of a sound shelf is let go here
-    let Some(split) = take_apart(shelf, frame.pair) else {
-        return Ok(State {
-            height: top,
-            turn: Turn::Answer(0),
-        });
-    };
-    match frame.stage {
-        Stage::Outer => {
-            write_frame(
-                work,
-                top,
-                Frame {
+impl<'s, 'r, 'w, S: Symbol, B: Shelf<S>, R: RecallTable> Walk<'s, 'r, 'w, S, B, R> {
+    // A turn at a pair: its number, or a frame for it and its outer pair.
+    fn meet(&mut self, pair: Pair) -> Turn
+        requires { Fits self.old.stack.room (waiting self.old.stack) (Meet pair) }
+        ensures same { self.new ≡ record self.old { stack = self.new.stack } }
+        ensures nearer { Nearer self.old.stack.room (waiting self.old.stack) (Meet pair) self.new.stack.room (waiting self.new.stack) result }
+        ensures goes { Goes S.Symbol.before (number_of self.old.rule) (B.Shelf.vertices self.old.shelf.now) (R.RecallTable.table self.old.recall.now) (waiting self.old.stack) (Meet pair) (waiting self.new.stack) result }
+    {
+        if let Some(n) = shortcut(self.rule, pair) {
+            return Turn::Answer(n);
+        }
+        if let Some(n) = self.recall.recall(question(self.rule, pair)) {
+            return Turn::Answer(n);
+        }
+        // two numbers that are neither 0 nor equal can be taken apart, unless one of them is no good number
+        let Some(split) = take_apart(self.shelf, pair) else {
+            return Turn::Answer(0);
+        };
+        self.stack.push(Place::from(Frame {
+            pair,
+            stage: Stage::Outer,
+        }));
+        Turn::Meet(split.outer)
+    }
+
+    // A turn at a number that comes back to a frame just taken off: on to its inner pair, or the frame's own number.
+    fn answer(&mut self, frame: Frame, n: u32) -> Result<Turn, Full>
+        requires { Fits self.old.stack.room (frame ∷ waiting self.old.stack) (Answer n) }
+        ensures same_shelf { self.new.shelf.ghost_name ≡ self.old.shelf.ghost_name }
+        ensures same_recall { self.new.recall.ghost_name ≡ self.old.recall.ghost_name }
+        ensures same_rule { self.new.rule ≡ self.old.rule }
+        ensures nearer { IfOk result (λ next. Nearer self.old.stack.room (frame ∷ waiting self.old.stack) (Answer n) self.new.stack.room (waiting self.new.stack) next) }
+        ensures turns { B.Shelf.ready self.old.shelf.now → Turns S.Symbol.before (number_of self.old.rule) (B.Shelf.capacity self.old.shelf.now) (B.Shelf.vertices self.old.shelf.now) (R.RecallTable.table self.old.recall.now) (frame ∷ waiting self.old.stack) (Answer n)
+            (B.Shelf.vertices self.new.shelf.now) (R.RecallTable.table self.new.recall.now) (waiting self.new.stack) result }
+        ensures ready { B.Shelf.ready self.old.shelf.now → B.Shelf.ready self.new.shelf.now }
+        ensures size { B.Shelf.capacity self.new.shelf.now ≡ B.Shelf.capacity self.old.shelf.now }
+    {
+        // a pair that waits was taken apart once, and vertices do not change: no frame of a sound shelf is let go here
+        let Some(split) = take_apart(self.shelf, frame.pair) else {
+            return Ok(Turn::Answer(0));
+        };
+        match frame.stage {
+            Stage::Outer => {
+                self.stack.push(Place::from(Frame {
                     pair: frame.pair,
                     stage: Stage::Inner(n),
-                },
-            );
-            Ok(State {
-                height,
-                turn: Turn::Meet(split.inner),
-            })
-        }
-        Stage::Inner(zero) => {
-            let number = couple(shelf, split.label, zero, n)?;
-            recall.tell(question(rule, frame.pair), number);
-            Ok(State {
-                height: top,
-                turn: Turn::Answer(number),
-            })
-        }
-    }
-}
-
-// The walk's number, once no frame waits for it.
-pub(crate) fn ended(state: State) -> Option<u32>
-    ensures { Ended state result }
-{
-    match state.turn {
-        Turn::Meet(_) => None,
-        Turn::Answer(n) => {
-            if state.height == 0 {
-                return Some(n);
+                }));
+                Ok(Turn::Meet(split.inner))
             }
-            None
+            Stage::Inner(zero) => {
+                let number = couple(self.shelf, split.label, zero, n)?;
+                self.recall.tell(question(self.rule, frame.pair), number);
+                Ok(Turn::Answer(number))
+            }
         }
     }
-}
 
-// One turn.
-pub(crate) fn advance<S: Symbol, B: Shelf<S>, R: RecallTable>(
-    shelf: &mut B,
-    recall: &mut R,
-    rule: Rule,
-    work: &mut [Place],
-    state: State,
-) -> Result<State, Full>
-    requires fits { Fits work.old state }
-    requires unended { Unended state.height state.turn }
-    ensures falls { ComesDown work.old state work.new result }
-    ensures turns { B.Shelf.ready shelf.old → Turns S.Symbol.before (number_of rule) (B.Shelf.capacity shelf.old) (B.Shelf.vertices shelf.old) (R.RecallTable.table recall.old) work.old state
-        (B.Shelf.vertices shelf.new) (R.RecallTable.table recall.new) work.new result }
-    ensures ready { B.Shelf.ready shelf.old → B.Shelf.ready shelf.new }
-    ensures size { B.Shelf.capacity shelf.new ≡ B.Shelf.capacity shelf.old }
-{
-    match state.turn {
-        Turn::Meet(pair) => Ok(meet(shelf, recall, rule, work, state.height, pair)),
-        Turn::Answer(n) => answer(shelf, recall, rule, work, state.height, n),
+    // Walks a pair to its end: its list is laid down, or does not fit, and part of it then stands after the old vertices.
+    pub fn run(&mut self, pair: Pair) -> Result<u32, Full>
+        requires empty { self.old.stack.frames ≡ [] }
+        requires room { sum pair ≤ self.old.stack.room }
+        ensures same_shelf { self.new.shelf.ghost_name ≡ self.old.shelf.ghost_name }
+        ensures same_recall { self.new.recall.ghost_name ≡ self.old.recall.ghost_name }
+        ensures answer { B.Shelf.ready self.old.shelf.now → Walks S.Symbol.before (B.Shelf.capacity self.old.shelf.now) (number_of self.old.rule) pair
+            (B.Shelf.vertices self.old.shelf.now) (R.RecallTable.table self.old.recall.now) result (B.Shelf.vertices self.new.shelf.now) (R.RecallTable.table self.new.recall.now) }
+        ensures ready { B.Shelf.ready self.old.shelf.now → B.Shelf.ready self.new.shelf.now }
+        ensures size { B.Shelf.capacity self.new.shelf.now ≡ B.Shelf.capacity self.old.shelf.now }
+    {
+        let mut turn = Turn::Meet(pair);
+        loop {
+            turn = match turn {
+                Turn::Meet(pair) => self.meet(pair),
+                Turn::Answer(n) => {
+                    let Some(place) = self.stack.pop() else {
+                        return Ok(n);
+                    };
+                    self.answer(Frame::from(place), n)?
+                }
+            };
+        }
     }
 }

@@ -1,5 +1,5 @@
 -- The steps down a code's path, and the frames that they leave.
-use Rattle.std.proofs.Common.{◌≡◌, ℕ, ◌+◌, ◌<◌, ◌≤◌, Bool, true, false, cond, ◌≢◌, ◌⊎◌, List, [], ◌∷◌, length, get_or, drop, set, Some, None, sym, refl, ap, ◌∙◌, subst, inl, inr, add-one, arith}
+use Rattle.std.proofs.Common.{◌≡◌, ℕ, ◌+◌, ◌<◌, ◌≤◌, Bool, true, false, cond, ◌⊎◌, List, [], ◌∷◌, length, get_or, drop, Some, None, sym, refl, ap, ◌∙◌, inl, inr, arith}
 use mathlib.Core.Path.{subst⁻¹}
 use Rattle.std.proofs.lemmas.List.{drop_more, drop_all}
 use Rattle.std.proofs.lemmas.Option.{slice_get_read}
@@ -21,11 +21,6 @@ use Rattle.paths.specs.Waiting.{Makes, Waits, Step, Stepped}
 use Rattle.paths.proofs.Seeing.{Seen, seen, unseen}
 use Rattle.paths.proofs.Leading.{differs, has_early, empty_end}
 use Rattle.paths.proofs.Along.{make_some, changed_past_end, changed_end_none, changed_end_blank, changed_past, changed_ahead, changed_in, changed_none, changed_blank}
-
-pub element : {X : Type 0} (xs : List X) (i : ℕ) → i < length xs → (x : X) × (x ≡ get_or xs i x)
-element [] i h = absurd (omega arith)
-element (y ∷ xs) ℕ.zero h = (y, refl)
-element (y ∷ xs) (ℕ.suc i) h = element xs i (omega arith)
 
 rest : {S : Type 0} (code : List S) (i : ℕ) (x : S) → i < length code → x ≡ get_or code i x → drop i code ≡ x ∷ drop (i + 1) code
 rest code i x h e = drop_more code i x h ∙ ap (λ y. y ∷ drop (i + 1) code) (sym e)
@@ -57,19 +52,17 @@ module _ {S : Type 0} (before : S → S → Bool) (order : Order before) (vs : L
         by change (inl p) = sym (ap (λ n. changed before change (codes vs n) []) p ∙ changed_end_none before change vs)
         by change (inr p) = sym (ap (λ n. changed before change (codes vs n) []) p ∙ changed_end_blank before change vs)
 
-    pub step_new_end : spot < length code → Step before vs code at spot (One at spot) 0 (spot + 1)
-    step_new_end h =
-        let x = element code spot h in
-        new_vertex x.0 h x.1 (λ s g. none_there x.0 (unseen before order vs s at (nothing s.formed) g)) (λ s g change. by x.0 change (unseen before order vs s at (nothing s.formed) g))
+    pub step_new_end : (x : S) → spot < length code → x ≡ get_or code spot x → Step before vs code at spot (One at spot) 0 (spot + 1)
+    step_new_end x h e = new_vertex x h e (λ s g. none_there (unseen before order vs s at (nothing s.formed) g)) (λ s g change. by change (unseen before order vs s at (nothing s.formed) g))
       where
-        none_there : (x : S) → (at ≡ 0) ⊎ (at ≡ 1) → has before (codes vs at) (x ∷ drop (spot + 1) code) ≡ false
-        none_there x (inl p) = rw p refl
-        none_there x (inr p) = rw p refl
+        none_there : (at ≡ 0) ⊎ (at ≡ 1) → has before (codes vs at) (x ∷ drop (spot + 1) code) ≡ false
+        none_there (inl p) = rw p refl
+        none_there (inr p) = rw p refl
 
-        by : (x : S) (change : Change) → (at ≡ 0) ⊎ (at ≡ 1) →
+        by : (change : Change) → (at ≡ 0) ⊎ (at ≡ 1) →
             changed before change (codes vs at) (x ∷ drop (spot + 1) code) ≡ make x (codes vs at) (changed before change none (drop (spot + 1) code))
-        by x change (inl p) = rw p (changed_none before change x (drop (spot + 1) code))
-        by x change (inr p) = rw p (changed_blank before change x (drop (spot + 1) code))
+        by change (inl p) = rw p (changed_none before change x (drop (spot + 1) code))
+        by change (inr p) = rw p (changed_blank before change x (drop (spot + 1) code))
 
   module _ (l : S) (z o : ℕ) (below : LinksBelow at (Some (l, z, o))) (there : Formed before vs → Some (l, z, o) ≡ option_map parts (look vs at)) where
     see : Sound before vs → Seen before vs at l z o

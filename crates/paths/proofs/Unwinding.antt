@@ -1,5 +1,5 @@
 -- The way back up the frames.
-use Rattle.std.proofs.Common.{◌≡◌, ℕ, ◌-◌, ◌<◌, ◌≤◌, Bool, true, false, ◌⊎◌, List, [], ◌∷◌, length, take, Ok, Err, Result, is_err, ap, ◌∙◌, subst, inl, inr, arith, length-append}
+use Rattle.std.proofs.Common.{◌≡◌, ℕ, ◌<◌, ◌≤◌, Bool, true, false, ◌⊎◌, List, [], ◌∷◌, length, take, Ok, Err, Result, is_err, ap, ◌∙◌, subst, inl, inr, arith, length-append}
 use mathlib.Core.Path.{subst⁻¹}
 use Rattle.std.proofs.lemmas.List.{take-append-le, take_all}
 use Rattle.symbols.specs.Order.{Order}

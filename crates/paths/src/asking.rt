@@ -26,16 +26,17 @@ fn after_symbol<S: Symbol, B: Shelf<S>>(shelf: &B, list: u32, symbol: S) -> u32
     0
 }
 
-// Where the code's path ends; the code is in the list if the empty code is in what it leads to.
-fn reach<S: Symbol, B: Shelf<S>>(shelf: &B, list: u32, code: &[S]) -> u32
-    ensures number { WhenGood S.Symbol.before (B.Shelf.vertices shelf.now) list (λ t. Numbers S.Symbol.before (B.Shelf.vertices shelf.now) (under S.Symbol.before t code.now) result) }
+// The list of what remains of the codes that begin with this one, this one taken off: where the code's path ends. The
+// code is in the list if the empty code is in what remains.
+pub fn under<S: Symbol, B: Shelf<S>>(shelf: &B, list: u32, code: &[S]) -> u32
+    ensures value { WhenGood S.Symbol.before (B.Shelf.vertices shelf.now) list (λ t. Numbers S.Symbol.before (B.Shelf.vertices shelf.now) (under S.Symbol.before t code.now) result) }
     ensures member { WhenGood S.Symbol.before (B.Shelf.vertices shelf.now) list (λ t. has S.Symbol.before (codes (B.Shelf.vertices shelf.now) result) [] ≡ has S.Symbol.before t code.now) }
 {
-    let mut at = list;
+    let mut reached = list;
     for symbol in code {
-        at = after_symbol(shelf, at, *symbol);
+        reached = after_symbol(shelf, reached, *symbol);
     }
-    at
+    reached
 }
 
 // Whether the empty code is in a list: whether its zero links end at terminal 1.
@@ -53,13 +54,5 @@ fn has_empty<S: Symbol, B: Shelf<S>>(shelf: &B, list: u32) -> bool
 pub fn holds<S: Symbol, B: Shelf<S>>(shelf: &B, list: u32, code: &[S]) -> bool
     ensures value { WhenGood S.Symbol.before (B.Shelf.vertices shelf.now) list (λ t. result ≡ has S.Symbol.before t code.now) }
 {
-    let at = reach(shelf, list, code);
-    has_empty(shelf, at)
-}
-
-// The list of what remains of the codes that begin with this one, this one taken off.
-pub fn under<S: Symbol, B: Shelf<S>>(shelf: &B, list: u32, code: &[S]) -> u32
-    ensures value { WhenGood S.Symbol.before (B.Shelf.vertices shelf.now) list (λ t. Numbers S.Symbol.before (B.Shelf.vertices shelf.now) (under S.Symbol.before t code.now) result) }
-{
-    reach(shelf, list, code)
+    has_empty(shelf, under(shelf, list, code))
 }

@@ -8,7 +8,7 @@ returns-in_err-get g c =
     (step_end g.S.Symbol.before g.met.S.Symbol.ordered _ _ _ _ c.in_default.ensures.value c.in_err-get.ensures.lookup.3)
 
 pub returns-in_default : goal.returns-in_default
-returns-in_default g c = step_new_end g.S.Symbol.before g.met.S.Symbol.ordered _ _ _ _ c.in_default.ensures.value c.in_ok-get.ensures.lookup.3.0
+returns-in_default g c = step_new_end g.S.Symbol.before g.met.S.Symbol.ordered _ _ _ _ c.in_default.ensures.value c.in_ok-get.field-0.now c.in_ok-get.ensures.lookup.3.0 c.in_ok-get.ensures.lookup.1
 
 pub returns-in-Some-get : goal.returns-in-Some-get
 returns-in-Some-get g c =
