@@ -85,8 +85,10 @@ pub(crate) fn keep<S: Symbol>(
     // By index: it reads and writes one run.
     for i in 0..used {
         if is_marked(marks, i + 2) {
-            let kept = new_vertex(marks, records[i as usize].vertex);
-            link(records, heads, to, bucket(kept, heads.len()), kept);
+            let vertex = records[i as usize].vertex;
+            let kept = new_vertex(marks, vertex);
+            let at = bucket(kept, heads.len());
+            link(records, heads, to, at, kept);
             to += 1;
         }
     }
