@@ -1,8 +1,9 @@
 -- What stands at an index of records, of the front of a list, of a list with one place written.
-use Rattle.std.proofs.Common.{◌≡◌, ℕ, zero, suc, ◌-◌, ◌<◌, ◌≤◌, List, [], ◌∷◌, map, length, get_or, take, set, Some, sym, refl, ap, ◌∙◌, arith}
+use Rattle.std.proofs.Common.{◌≡◌, ℕ, zero, suc, ◌+◌, ◌-◌, ◌<◌, ◌≤◌, List, [], ◌∷◌, ◌++◌, map, length, get_or, take, drop, set, Some, sym, refl, ap, ◌∙◌, arith}
 use Rattle.std.specs.List.{slice_get}
 use Rattle.std.specs.Option.{option_map}
-use Rattle.std.proofs.lemmas.List.{length-map, length-set, length-take, get_or-map, get_or-set_same, get_or-take}
+use Rattle.std.proofs.lemmas.List.{length-append, length-drop, length-map, length-set, length-take, get_or-drop, get_or-map, get_or-set_same, get_or-take, take-take}
+use Rattle.std.proofs.Math.Seq.{take-append_seam, get_or-append_seam}
 use Rattle.std.proofs.lemmas.Option.{get_or_from_slice_get, slice_get-get_or, slice_get-map, slice_get_read, slice_get_within}
 use Rattle.ledger.specs.declared.Vertex.{Vertex}
 use Rattle.ledger.specs.Diagrams.{look}
@@ -34,6 +35,26 @@ module _ {X : Type 0} where
 
   pub nth_set_same : (xs : List X) (i : ℕ) (y : X) → i < length xs → slice_get (set xs i y) i ≡ Some y
   nth_set_same xs i y h = slice_get-get_or (set xs i y) i y (omega (arith, length-set xs i y)) ∙ ap Some (get_or-set_same xs i y y h)
+
+-- what is left of the entries from `low` on, and the last of it
+module _ {X : Type 0} (xs left rest : List X) (x : X) (low : ℕ) (is : left ≡ take (length left) (drop low xs)) (last : left ≡ rest ++ x ∷ []) where
+  one_more : length left ≡ length rest + 1
+  one_more = ap length last ∙ length-append rest (x ∷ [])
+
+  pub front_less : rest ≡ take (length rest) (drop low xs)
+  front_less =
+      sym (take-append_seam rest (x ∷ [])) ∙ ap (take (length rest)) (sym last ∙ is) ∙
+      take-take (length rest) (length left) (drop low xs) (omega (arith, one_more))
+
+  pub front_last : slice_get xs (low + length rest) ≡ Some x
+  front_last =
+      let long : length left ≤ length xs - low = omega (arith, ap length is, length-take (length left) (drop low xs), length-drop low xs) in
+      slice_get-get_or xs (low + length rest) x (omega (arith, one_more)) ∙
+      ap Some
+      (sym (get_or-drop low xs (length rest) x) ∙
+      sym (get_or-take (length left) (drop low xs) (length rest) x (omega (arith, one_more))) ∙
+      ap (λ l. get_or l (length rest) x) (sym is ∙ last) ∙
+      get_or-append_seam rest x [] x)
 
 module _ {S : Type 0} where
   pub look_at : (vs : List (Vertex S)) (n : ℕ) → 2 ≤ n → look vs n ≡ slice_get vs (n - 2)
