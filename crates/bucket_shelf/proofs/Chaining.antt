@@ -1,7 +1,7 @@
 -- Chains with a vertex more or less.
 use Rattle.std.proofs.Common.{◌≡◌, ℕ, ◌+◌, ◌-◌, ◌<◌, ◌≤◌, List, length, get_or, set, replicate, Some, sym, refl, ap, ◌∙◌, subst, ⊎_elim, arith}
 use Rattle.std.specs.List.{slice_get}
-use Rattle.std.proofs.lemmas.List.{length-set, length-map, length-replicate, get_or-replicate, get_or_past, get_or-set_same, get_or-set_other, map-set}
+use Rattle.std.proofs.lemmas.List.{length-set, length-map, length-replicate, get_or-replicate, get_or-set_same, get_or-set_other, map-set}
 use Rattle.std.proofs.lemmas.Bool.{cases_lt, cases_eq}
 use Rattle.ledger.specs.declared.Vertex.{Vertex}
 use Rattle.bucket_shelf.specs.declared.Entry.{Entry}
@@ -55,9 +55,6 @@ module _ {S : Type 0} (p : Vertex S → ℕ) where
         there = q.there;
       }
 
-pub none_at : (n b : ℕ) → ◌≡◌ {A = ℕ} (get_or (replicate n 0) b 0) 0
-none_at n b = ⊎_elim (λ l. get_or-replicate n b 0 0 l) (λ l. get_or_past (replicate n 0) b 0 (omega (arith, length-replicate {A = ℕ} n 0))) (cases_lt b n)
-
 module _ {S : Type 0} (f : S → ℕ) where
   -- the same chains, by the number of heads and the vertices
   chained_from : (es : List (Entry S)) (hs : List ℕ) (u n : ℕ) (vs : List (Vertex S)) → n ≡ length hs → vs ≡ vertices_in es →
@@ -70,10 +67,14 @@ module _ {S : Type 0} (f : S → ℕ) where
       }
 
   -- no head, no vertex: chains of nothing
-  pub chained_none : (es : List (Entry S)) (hs : List ℕ) → ((b : ℕ) → get_or hs b 0 ≡ 0) → Chained f es hs 0
-  chained_none es hs h =
+  pub chained_none : (es : List (Entry S)) (n : ℕ) → Chained f es (replicate n 0) 0
+  chained_none es n =
+      let zeros : length (replicate {A = ℕ} n 0) ≡ n = length-replicate n 0 in
+      let none : (b : ℕ) → b < n → ◌≡◌ {A = ℕ} (get_or (replicate n 0) b 0) 0 = λ b l. get_or-replicate n b 0 0 l in
       record {
-        heads = λ b l. record { below = omega (arith, h b); above = λ k w i. absurd (omega arith); there = λ w i. absurd (omega (arith, h b)) };
+        heads = λ b l.
+            let z = none b (omega arith) in
+            record { below = omega arith; above = λ k w i. absurd (omega arith); there = λ w i. absurd (omega arith) };
         nexts = λ j e l. absurd (omega arith);
       }
 

@@ -1,4 +1,3 @@
 mod Indices
 mod Chaining
 mod Walking
-mod Rooms

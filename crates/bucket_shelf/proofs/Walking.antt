@@ -4,10 +4,11 @@ use Rattle.std.specs.List.{slice_get}
 use Rattle.std.proofs.lemmas.Bool.{cases_lt}
 use Rattle.ledger.specs.declared.Vertex.{Vertex}
 use Rattle.ledger.specs.Laid.{First}
+use Rattle.ledger.proofs.Least.{vertex_from_2}
 use Rattle.bucket_shelf.specs.declared.Entry.{Entry}
 use Rattle.memory.specs.Buckets.{bucket}
 use Rattle.bucket_shelf.specs.Chains.{vertex_of, vertices_in, Top, Chained}
-use Rattle.bucket_shelf.proofs.Indices.{nth_whole, nth_part, nth_map, look_at, looks_from_2}
+use Rattle.bucket_shelf.proofs.Indices.{nth_whole, nth_part, nth_map, look_at}
 
 -- the lowest v from index t on, by its number
 abbrev pub LowestFrom : {S : Type 0} → List (Vertex S) → ℕ → Vertex S → ℕ → Option ℕ → Type 0
@@ -63,13 +64,13 @@ module _ {S : Type 0} (p : Vertex S → ℕ) (vs : List (Vertex S)) (u : ℕ) (v
   -- at the end of the chain
   lowest_first : (o : Option ℕ) → LowestFrom vs u v 0 o → First (take u vs) v o
   lowest_first None s = λ n e.
-      let h : 2 ≤ n = looks_from_2 (take u vs) n v e in
+      let h : 2 ≤ n = vertex_from_2 (take u vs) n v e in
       let q = nth_whole vs u (n - 2) v (sym (look_at (take u vs) n h) ∙ e) in
       s (n - 2) (omega arith) q.0 q.1
   lowest_first (Some m) s = (
     look_at (take u vs) m (omega (arith, s.0)) ∙ nth_part vs u (m - 2) v (omega (arith, s.0, s.1)) s.2,
     λ n l e.
-        let h : 2 ≤ n = looks_from_2 (take u vs) n v e in
+        let h : 2 ≤ n = vertex_from_2 (take u vs) n v e in
         let q = nth_whole vs u (n - 2) v (sym (look_at (take u vs) n h) ∙ e) in
         s.3 (n - 2) (omega arith) (omega arith) q.1,
   )

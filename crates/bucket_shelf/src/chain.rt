@@ -58,10 +58,9 @@ pub(crate) fn link<S: Symbol>(
 // Takes the vertices from index `n` on out of their chains, the last first: each is then at the top of its chain.
 pub(crate) fn unlink<S: Symbol>(records: &[Entry<S>], heads: &mut [u32], used: u32, n: u32)
     requires { used ≤ room records.now heads.old }
-    ensures { Chained S.Symbol.scatter records.now heads.old used → Chained S.Symbol.scatter records.now heads.new (min used n) }
+    ensures { Chained S.Symbol.scatter records.now heads.old used → Chained S.Symbol.scatter records.now heads.new (min n used) }
 {
-    for i in (n..used).rev() {
-        let entry = records[i as usize];
+    for entry in records[n.min(used) as usize..used as usize].iter().rev() {
         let at = bucket(entry.vertex, heads.len());
         heads[at] = entry.next;
     }
@@ -85,8 +84,10 @@ pub(crate) fn keep<S: Symbol>(
     // By index: it reads and writes one run.
     for i in 0..used {
         if is_marked(marks, i + 2) {
-            let kept = new_vertex(marks, records[i as usize].vertex);
-            link(records, heads, to, bucket(kept, heads.len()), kept);
+            let vertex = records[i as usize].vertex;
+            let kept = new_vertex(marks, vertex);
+            let at = bucket(kept, heads.len());
+            link(records, heads, to, at, kept);
             to += 1;
         }
     }

@@ -35,7 +35,7 @@ impl RecallTable for Blank {
 }
 
 // One slot, and one note: the entry with the turn in which it came, and beside it the number of the slot that was
-// filled in the turn of this record's own place.
+// filled in the turn of this record's own place. Plain numbers, since the memory is lent as it lies.
 #[derive(Clone, Copy)]
 pub struct Slot {
     pub question: Question,
@@ -67,7 +67,10 @@ impl<'a> RecallTable for SlotTable<'a> {
     ghost finite = { λ t. held_finite t.slots.now t.turns };
 
     fn recall(&self, question: Question) -> Option<u32> {
-        slots::recall(self.slots, self.turns, question)
+        let i = self.slot_of(question)?;
+        let slot = self.slots[i as usize];
+        let full = slot.question == question && self.was_filled(slot.turn, i);
+        full.then_some(slot.answer)
     }
 
     // Beyond what every table promises: with a slot at all the entry is there then, and while there are fewer turns than
@@ -75,8 +78,19 @@ impl<'a> RecallTable for SlotTable<'a> {
     fn tell(&mut self, question: Question, answer: u32)
         ensures { (Told (held self.old.slots.now self.old.turns) question answer (held self.new.slots.now self.new.turns)) × ((Recalls self.old.slots.now question answer (held self.new.slots.now self.new.turns)) × (Spares self.old.slots.now self.old.turns question (held self.new.slots.now self.new.turns))) }
     {
-        let turns = self.turns;
-        self.turns = slots::tell(self.slots, turns, question, answer);
+        let Some(i) = self.slot_of(question) else {
+            return;
+        };
+        let turn = self.turn_for(i);
+        self.slots[turn as usize].filled = i;
+        let slot = self.slots[i as usize];
+        self.slots[i as usize] = Slot {
+            question,
+            answer,
+            turn,
+            ..slot
+        };
+        self.turns = self.turns.max(turn + 1);
     }
 
     fn forget(&mut self) {
