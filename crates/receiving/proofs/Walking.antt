@@ -1,10 +1,10 @@
 -- The tasks of a walk: what doing one comes to, and that fewer steps are left.
-use Rattle.std.proofs.Common.{◌≡◌, ℕ, zero, suc, ◌+◌, ◌-◌, ◌<◌, ◌≤◌, ◌↔◌, List, ◌∷◌, length, Some, None, refl, subst, arith}
+use Rattle.std.proofs.Common.{◌≡◌, ℕ, zero, suc, ◌+◌, ◌-◌, ◌<◌, ◌≤◌, ◌↔◌, List, ◌∷◌, length, Some, refl, subst, arith}
 use mathlib.Core.Path.{subst⁻¹}
 use Rattle.ledger.specs.declared.Vertex.{Vertex}
 use Rattle.ledger.specs.Diagrams.{look}
 use Rattle.ledger.specs.Visits.{Visits, passed, comes_to}
-use Rattle.ledger.proofs.Reading.{none_some, some_same}
+use Rattle.ledger.proofs.Reading.{some_same}
 use Rattle.memory.specs.declared.work.Place.{Place}
 use Rattle.receiving.specs.Walks.{place_of, Reaches, Fits, weigh, task_cost, cost, Does, Rest, Leads}
 use Rattle.receiving.specs.declared.visiting.Task.{Task}
@@ -51,14 +51,6 @@ module _ {S : Type 0} (vs : List (Vertex S)) (k : ℕ) where
       there j (passed l e) r = subst⁻¹ next e r
       there j (comes_to v i m p l wz wo e f) r = absurd (omega arith)
 
-  -- a number that is no vertex
-  does_none : (n d : ℕ) (next : ℕ → Type 0) → suc (suc d) ≤ n → look vs n ≡ None → Does vs (Visit n) d next → ⊥
-  does_none n d next h no_vertex r = by r.0 r.1
-    where
-      by : (j : ℕ) → Visits vs d n j → ⊥
-      by j (passed l e) = omega arith
-      by j (comes_to v i m p l wz wo e f) = none_some no_vertex p
-
   -- a vertex: its links, then itself
   does_vertex : (n d : ℕ) (next : ℕ → Type 0) (v : Vertex S) → suc (suc d) ≤ n → look vs n ≡ Some v →
       Does vs (Visit n) d next ↔ Does vs (Visit v.zero) d (λ a. Does vs (Visit v.one) a (λ b. Does vs (Close n) b next))
@@ -77,12 +69,6 @@ module _ {S : Type 0} (vs : List (Vertex S)) (k : ℕ) where
   module _ (ps : List Place) (n d : ℕ) where
     pub leads_passed : n < suc (suc d) → Leads vs k (Visit n) d ps (Some d) ps
     leads_passed h = does_passed n d (λ j. Rest vs k ps j) h
-
-    pub leads_none : suc (suc d) ≤ n → look vs n ≡ None → Leads vs k (Visit n) d ps None ps
-    leads_none h no_vertex = does_none n d (λ j. Rest vs k ps j) h no_vertex
-
-    pub leads_close : n ≡ suc (suc d) → Leads vs k (Close n) d ps (Some (d + 1)) ps
-    leads_close h = let q : suc d ≡ d + 1 = omega arith in (λ r. subst (Rest vs k ps) q r.1, λ r. (h, subst⁻¹ (Rest vs k ps) q r))
 
     pub leads_vertex : suc (suc d) ≤ n → (v : Vertex S) → look vs n ≡ Some v → (after : List Place) → after ≡ place_of (Visit v.zero) ∷ place_of (Visit v.one) ∷ place_of (Close n) ∷ ps →
         Leads vs k (Visit n) d ps (Some d) after
