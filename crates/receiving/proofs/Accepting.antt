@@ -2,13 +2,12 @@
 use Rattle.std.proofs.Common.{◌≡◌, ℕ, zero, suc, ◌+◌, ◌*◌, ◌≤◌, Bool, List, [], length, Ok, Err, Result, sym, refl, ap, ◌∙◌, subst, inl, inr, arith}
 use Rattle.symbols.specs.Order.{Order}
 use Rattle.symbols.specs.Wire.{Travel}
-use Rattle.symbols.specs.declared.SymbolFault.{SymbolFault}
 use Rattle.ledger.specs.declared.Vertex.{Vertex}
 use Rattle.ledger.specs.Lists.{Codes, Proper}
 use Rattle.ledger.specs.Diagrams.{Formed}
 use Rattle.ledger.specs.Ledger.{codes, Lays}
 use Rattle.ledger.proofs.Forming.{formed_proper}
-use Rattle.wire.specs.Records.{travel, records_in}
+use Rattle.wire.specs.Records.{records_in}
 use Rattle.wire.specs.Written.{written}
 use Rattle.wire.specs.declared.head.Head.{Head}
 use Rattle.wire.specs.declared.faults.RecordFault.{RecordFault}
@@ -41,28 +40,28 @@ module _ {S : Type 0} (before : S → S → Bool) (order : Order before) where
       let is : rows_in before t n bs ≡ ds = ap rows_of ok in
       (subst (ReadAs t bs) is W.reads, subst (Formed before) is W.formed, sym (ap length is) ∙ W.many)
 
-  module _ (kind width : ℕ) (bytes : S → List ℕ) (reads : List ℕ → Result S SymbolFault) where
-    pub only_written : OnlyWritten before (travel kind width bytes reads)
-    only_written capacity vs bs n ws = by_head (head_checked kind width capacity bs) refl
+  module _ (t : Travel S) where
+    pub only_written : OnlyWritten before t
+    only_written capacity vs bs n ws = by_head (head_checked t.kind t.width capacity bs) refl
       where
-        ends : (h : Head) (rest : List ℕ) → head_checked kind width capacity bs ≡ Ok (h, rest) → (ds : List (Vertex S)) → records_in before (travel kind width bytes reads) h.count [] rest ≡ Ok ds →
-            Ends before capacity vs (AsWritten before (travel kind width bytes reads) bs ds h.root) (codes ds h.root) (Ok n) ws → (u : Codes S) × Proper before u × Short u × (bs ≡ written before (travel kind width bytes reads) u) × Lays {F = ReceiveFault} before capacity vs u (Ok n) ws
+        ends : (h : Head) (rest : List ℕ) → head_checked t.kind t.width capacity bs ≡ Ok (h, rest) → (ds : List (Vertex S)) → records_in before t h.count [] rest ≡ Ok ds →
+            Ends before capacity vs (AsWritten before t bs ds h.root) (codes ds h.root) (Ok n) ws → (u : Codes S) × Proper before u × Short u × (bs ≡ written before t u) × Lays {F = ReceiveFault} before capacity vs u (Ok n) ws
         ends h rest p ds q (inl x) = absurd (err_ok x.1.0 refl)
         ends h rest p ds q (inr (inl x)) = absurd (err_ok x.2.0 refl)
         ends h rest p ds q (inr (inr x)) =
-            let few = head_few kind width capacity bs h rest (head_right kind width capacity bs h rest p) in
-            let f = (read_right (travel kind width bytes reads) rest h.count ds q few.1).1 in
+            let few = head_few t.kind t.width capacity bs h rest (head_right t.kind t.width capacity bs h rest p) in
+            let f = (read_right t rest h.count ds q few.1).1 in
             (codes ds h.root, formed_proper before order ds f h.root x.0.0, x.1, x.0.1, x.2)
 
-        by_records : (h : Head) (rest : List ℕ) → head_checked kind width capacity bs ≡ Ok (h, rest) → (y : Result (List (Vertex S)) FaultyRecord) → records_in before (travel kind width bytes reads) h.count [] rest ≡ y →
-            ByRecords before (travel kind width bytes reads) capacity vs bs h.root y (Ok n) ws → (u : Codes S) × Proper before u × Short u × (bs ≡ written before (travel kind width bytes reads) u) × Lays {F = ReceiveFault} before capacity vs u (Ok n) ws
+        by_records : (h : Head) (rest : List ℕ) → head_checked t.kind t.width capacity bs ≡ Ok (h, rest) → (y : Result (List (Vertex S)) FaultyRecord) → records_in before t h.count [] rest ≡ y →
+            ByRecords before t capacity vs bs h.root y (Ok n) ws → (u : Codes S) × Proper before u × Short u × (bs ≡ written before t u) × Lays {F = ReceiveFault} before capacity vs u (Ok n) ws
         by_records h rest p (Err e) q x = absurd (err_ok x.0 refl)
         by_records h rest p (Ok ds) q x = ends h rest p ds q x
 
-        by_head : (y : Result (Head × List ℕ) ReceiveFault) → head_checked kind width capacity bs ≡ y →
-            ByHead before (travel kind width bytes reads) capacity vs bs y (Ok n) ws → (u : Codes S) × Proper before u × Short u × (bs ≡ written before (travel kind width bytes reads) u) × Lays {F = ReceiveFault} before capacity vs u (Ok n) ws
+        by_head : (y : Result (Head × List ℕ) ReceiveFault) → head_checked t.kind t.width capacity bs ≡ y →
+            ByHead before t capacity vs bs y (Ok n) ws → (u : Codes S) × Proper before u × Short u × (bs ≡ written before t u) × Lays {F = ReceiveFault} before capacity vs u (Ok n) ws
         by_head (Err e) p x = absurd (err_ok x.0 refl)
-        by_head (Ok h) p x = by_records h.0 h.1 p (records_in before (travel kind width bytes reads) h.0.count [] h.1) refl x
+        by_head (Ok h) p x = by_records h.0 h.1 p (records_in before t h.0.count [] h.1) refl x
 
 -- a refusal leaves the vertices
 module _ {S : Type 0} (before : S → S → Bool) (t : Travel S) (capacity : ℕ) (vs : List (Vertex S)) (bs : List ℕ) (e : ReceiveFault) (ws : List (Vertex S)) where

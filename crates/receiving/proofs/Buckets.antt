@@ -1,8 +1,7 @@
 -- Buckets of records: what a walk down a bucket has seen, and one record more.
-use Rattle.std.proofs.Common.{◌≡◌, ℕ, zero, suc, ◌+◌, ◌-◌, ◌<◌, ◌≤◌, min, eqb, ◌⊎◌, List, length, get_or, set, Some, sym, refl, ap, ◌∙◌, inl, inr, arith}
+use Rattle.std.proofs.Common.{◌≡◌, ℕ, zero, suc, ◌+◌, ◌-◌, ◌<◌, ◌≤◌, min, eqb, ◌⊎◌, List, length, get_or, Some, sym, refl, ap, ◌∙◌, inl, inr, arith}
 use mathlib.Core.Path.{subst⁻¹}
 use Rattle.std.specs.List.{slice_get}
-use Rattle.std.proofs.lemmas.List.{length-set, get_or-set_same, get_or-set_other}
 use Rattle.std.proofs.lemmas.Bool.{cases_eq, cases_lt, eq-eqb, ne_eqb, cond-true, cond-false}
 use Rattle.ledger.specs.declared.Vertex.{Vertex}
 use Rattle.ledger.specs.Diagrams.{Different}
@@ -143,25 +142,3 @@ module _ {S : Type 0} (ds : List (Vertex S)) where
 
   pub not_different : (k : ℕ) (v : Vertex S) → slice_get ds k ≡ Some v → (j : ℕ) × (j < k) × (slice_get ds j ≡ Some v) → Different ds → ⊥
   not_different k v at s d = let e = d (suc (suc k)) (suc (suc s.0)) v at s.2 in let l = s.1 in omega arith
-
--- a field that a write keeps
-field_kept : (f : Place → ℕ) (xs : List Place) (i : ℕ) (p : Place) → i < length xs → f p ≡ f (get_or xs i vacant) → (j : ℕ) → f (get_or (set xs i p) j vacant) ≡ f (get_or xs j vacant)
-field_kept f xs i p h e j = by (cases_eq j i)
-  where
-    by : (j ≡ i) ⊎ (j ≡ i → ⊥) → f (get_or (set xs i p) j vacant) ≡ f (get_or xs j vacant)
-    by (inl s) = subst⁻¹ (λ x. f (get_or (set xs i p) x vacant) ≡ f (get_or xs x vacant)) s (ap f (get_or-set_same xs i p vacant h) ∙ e)
-    by (inr s) = ap f (get_or-set_other xs i j p vacant s)
-
--- one write after the other
-pub put_front : (work : List Place) (b k next : ℕ) (own head : Place) → b < length work → k < length work → next ≡ (get_or work b vacant).list →
-    own.list ≡ (get_or work k vacant).list → own.other ≡ next → head.list ≡ k + 1 → head.other ≡ (get_or (set work k own) b vacant).other →
-    PutInFront work b k (set (set work k own) b head)
-put_front work b k next own head hb hk n o p q r =
-    let hb' : b < length (set work k own) = (let l = length-set work k own in omega arith) in
-    let kept : (j : ℕ) → (get_or (set (set work k own) b head) j vacant).other ≡ (get_or (set work k own) j vacant).other = field_kept (λ (x : Place). x.other) (set work k own) b head hb' r in
-    record {
-      head_new = ap (λ (x : Place). x.list) (get_or-set_same (set work k own) b head vacant hb') ∙ q;
-      heads_old = λ a s. ap (λ (x : Place). x.list) (get_or-set_other (set work k own) b a head vacant s) ∙ field_kept (λ (x : Place). x.list) work k own hk o a;
-      next_new = kept k ∙ ap (λ (x : Place). x.other) (get_or-set_same work k own vacant hk) ∙ p ∙ n;
-      nexts_old = λ j s. kept j ∙ ap (λ (x : Place). x.other) (get_or-set_other work k j own vacant s);
-    }

@@ -5,14 +5,13 @@ use Rattle.std.proofs.lemmas.Bool.{cases_Bool, cases_lt, leb-true, eqb-true, con
 use Rattle.std.specs.List.{slice_get}
 use Rattle.symbols.specs.Order.{Order}
 use Rattle.symbols.specs.Wire.{Travel, WireLaws}
-use Rattle.symbols.specs.declared.SymbolFault.{SymbolFault}
 use Rattle.ledger.specs.declared.Vertex.{Vertex}
 use Rattle.ledger.specs.Diagrams.{Formed}
 use Rattle.ledger.specs.Lists.{Codes}
 use Rattle.ledger.specs.Dispatch.{be4, records, dispatch}
 use Rattle.ledger.proofs.Bytes.{received}
 use Rattle.wire.specs.Heads.{word_of, word, head_of}
-use Rattle.wire.specs.Records.{travel, record_of}
+use Rattle.wire.specs.Records.{record_of}
 use Rattle.wire.specs.declared.head.Head.{Head}
 use Rattle.wire.specs.declared.faults.ReceiveFault.{ReceiveFault}
 use Rattle.wire.specs.declared.faults.ReceiveFault.TheVariants.{BadLength, OtherVersion, OtherKind, ShelfFull}
@@ -96,35 +95,32 @@ head_right kind width capacity bs h rest p =
       rest_is = ap (λ (x : Head × List ℕ). x.1) pair;
     }
 
-module _ {S : Type 0} (kind width : ℕ) (bytes : S → List ℕ) (reads : List ℕ → Result S SymbolFault) (laws : WireLaws (record { kind = kind; width = width; bytes = bytes; reads = reads })) where
-  abbrev t : Travel S
-  t = travel kind width bytes reads
-
-  -- a record that is right is its vertex's bytes
-  record_back : (own : ℕ) (bs : List ℕ) (v : Vertex S) → AllBytes bs → length bs ≡ width + 8 → record_of t own bs ≡ Ok v → bytes v.label ++ (be4 v.zero ++ be4 v.one) ≡ bs
+module _ {S : Type 0} (t : Travel S) (laws : WireLaws t) where
+  -- a record that is right is its vertex's t.bytes
+  record_back : (own : ℕ) (bs : List ℕ) (v : Vertex S) → AllBytes bs → length bs ≡ t.width + 8 → record_of t own bs ≡ Ok v → t.bytes v.label ++ (be4 v.zero ++ be4 v.one) ≡ bs
   record_back own bs v all long ok =
       let l = right_links t own bs v ok in
-      let wide : length (take width bs) ≡ width = length-take-le width bs (omega arith) in
-      let label : bytes v.label ≡ take width bs = laws.own (take width bs) v.label wide (λ k h. bytes_take width bs all k) l.label_is in
-      let low = four bs width all (omega arith) in
-      let high = four bs (width + 4) all (omega arith) in
-      let q : width + 4 + 4 ≡ width + 8 = omega arith in
-      let over : drop (width + 4 + 4) bs ≡ [] = drop_all (width + 4 + 4) bs (omega arith) in
+      let wide : length (take t.width bs) ≡ t.width = length-take-le t.width bs (omega arith) in
+      let label : t.bytes v.label ≡ take t.width bs = laws.own (take t.width bs) v.label wide (λ k h. bytes_take t.width bs all k) l.label_is in
+      let low = four bs t.width all (omega arith) in
+      let high = four bs (t.width + 4) all (omega arith) in
+      let q : t.width + 4 + 4 ≡ t.width + 8 = omega arith in
+      let over : drop (t.width + 4 + 4) bs ≡ [] = drop_all (t.width + 4 + 4) bs (omega arith) in
       ap₂ (λ x y. x ++ y) label
-      (ap₂ (λ z o. be4 z ++ be4 o) l.zero_is l.one_is ∙ ap (λ x. be4 (word bs width) ++ x) (sym (append-nil (be4 (word bs (width + 4)))) ∙ ap (λ x. be4 (word bs (width + 4)) ++ x) (sym over) ∙ sym high) ∙ sym low) ∙
-      take-append-drop width bs
+      (ap₂ (λ z o. be4 z ++ be4 o) l.zero_is l.one_is ∙ ap (λ x. be4 (word bs t.width) ++ x) (sym (append-nil (be4 (word bs (t.width + 4)))) ∙ ap (λ x. be4 (word bs (t.width + 4)) ++ x) (sym over) ∙ sym high) ∙ sym low) ∙
+      take-append-drop t.width bs
 
-  records_from : (rest : List ℕ) → AllBytes rest → (es : List (Vertex S)) (k : ℕ) → length rest ≡ (k + length es) * (width + 8) →
-      ((j : ℕ) (v : Vertex S) → slice_get es j ≡ Some v → record_of t (k + j + 2) (record_at width rest (k + j)) ≡ Ok v) → records bytes es ≡ drop (k * (width + 8)) rest
+  records_from : (rest : List ℕ) → AllBytes rest → (es : List (Vertex S)) (k : ℕ) → length rest ≡ (k + length es) * (t.width + 8) →
+      ((j : ℕ) (v : Vertex S) → slice_get es j ≡ Some v → record_of t (k + j + 2) (record_at t.width rest (k + j)) ≡ Ok v) → records t.bytes es ≡ drop (k * (t.width + 8)) rest
   records_from rest all [] k long each =
       let e : k + 0 ≡ k = omega arith in
-      let l = ap (λ n. n * (width + 8)) e in
-      sym (drop_all (k * (width + 8)) rest (omega arith))
+      let l = ap (λ n. n * (t.width + 8)) e in
+      sym (drop_all (k * (t.width + 8)) rest (omega arith))
   records_from rest all (v ∷ es) k long each =
-      let size = width + 8 in
+      let size = t.width + 8 in
       let X = drop (k * size) rest in
       let e0 : k + 0 ≡ k = omega arith in
-      let ok : record_of t (k + 2) (record_at width rest k) ≡ Ok v = ap (λ n. record_of t (n + 2) (record_at width rest n)) (sym e0) ∙ each 0 v refl in
+      let ok : record_of t (k + 2) (record_at t.width rest k) ≡ Ok v = ap (λ n. record_of t (n + 2) (record_at t.width rest n)) (sym e0) ∙ each 0 v refl in
       let e1 : k + suc (length es) ≡ suc k + length es = omega arith in
       let grow = suc-mul k size in
       let le = mul-le-mul {n₁ = suc k} {m₁ = size} {n₂ = suc k + length es} {m₂ = size} (omega arith) (omega arith) in
@@ -132,26 +128,26 @@ module _ {S : Type 0} (kind width : ℕ) (bytes : S → List ℕ) (reads : List 
       let lx : length X ≡ length rest - k * size = length-drop (k * size) rest in
       let wide : length (take size X) ≡ size = length-take-le size X (omega arith) in
       let rec = record_back (k + 2) (take size X) v (bytes_take size X (bytes_drop (k * size) rest all)) wide ok in
-      let next = records_from rest all es (suc k) long' (λ j w p. let q : k + suc j ≡ suc k + j = omega arith in subst (λ n. record_of t (n + 2) (record_at width rest n) ≡ Ok w) q (each (suc j) w p)) in
+      let next = records_from rest all es (suc k) long' (λ j w p. let q : k + suc j ≡ suc k + j = omega arith in subst (λ n. record_of t (n + 2) (record_at t.width rest n) ≡ Ok w) q (each (suc j) w p)) in
       let past : drop (suc k * size) rest ≡ drop size X = ap (λ n. drop n rest) grow ∙ sym (drop-drop size (k * size) rest) in
-      sym (append_assoc (bytes v.label) (be4 v.zero ++ be4 v.one) (records bytes es)) ∙ ap₂ (λ x y. x ++ y) rec (next ∙ past) ∙ take-append-drop size X
+      sym (append_assoc (t.bytes v.label) (be4 v.zero ++ be4 v.one) (records t.bytes es)) ∙ ap₂ (λ x y. x ++ y) rec (next ∙ past) ∙ take-append-drop size X
 
-  module _ (capacity : ℕ) (bs : List ℕ) (all : AllBytes bs) (h : Head) (rest : List ℕ) (H : HeadRight kind width capacity bs h rest) (ds : List (Vertex S)) (R : ReadAs t rest ds) (many : length ds ≡ h.count) where
+  module _ (capacity : ℕ) (bs : List ℕ) (all : AllBytes bs) (h : Head) (rest : List ℕ) (H : HeadRight t.kind t.width capacity bs h rest) (ds : List (Vertex S)) (R : ReadAs t rest ds) (many : length ds ≡ h.count) where
     -- the whole
-    pub bytes_are : dispatch kind width bytes (record { drawn = ds; root = h.root }) ≡ bs
+    pub bytes_are : dispatch t.kind t.width t.bytes (record { drawn = ds; root = h.root }) ≡ bs
     bytes_are =
         let count_is : word bs 6 ≡ length ds = ap (λ (x : Head). x.count) H.head_is ∙ sym many in
         let root_is : word bs 10 ≡ h.root = ap (λ (x : Head). x.root) H.head_is in
-        let whole_is : word bs 0 ≡ 14 + length ds * (width + 8) = H.whole ∙ H.length_is ∙ ap (λ n. 14 + n * (width + 8)) count_is in
+        let whole_is : word bs 0 ≡ 14 + length ds * (t.width + 8) = H.whole ∙ H.length_is ∙ ap (λ n. 14 + n * (t.width + 8)) count_is in
         let version_is : get_or bs 4 0 ≡ 1 = H.version in
-        let kind_is : get_or bs 5 0 ≡ kind = H.kind_is in
+        let kind_is : get_or bs 5 0 ≡ t.kind = H.kind_is in
         let long = H.long in
         let q : length ds ≡ 0 + length ds = omega arith in
-        let recs : records bytes ds ≡ rest =
-        records_from rest (subst AllBytes H.rest_is (bytes_drop 14 bs all)) ds 0 (R.long ∙ ap (λ n. n * (width + 8)) q)
-        (λ j v p. let e : j ≡ 0 + j = omega arith in subst (λ n. record_of t (n + 2) (record_at width rest n) ≡ Ok v) e (R.each j v p)) ∙
-        ap (λ n. drop n rest) (zero-mul (width + 8)) in
-        let rest_is : drop 14 bs ≡ records bytes ds = H.rest_is ∙ sym recs in
+        let recs : records t.bytes ds ≡ rest =
+        records_from rest (subst AllBytes H.rest_is (bytes_drop 14 bs all)) ds 0 (R.long ∙ ap (λ n. n * (t.width + 8)) q)
+        (λ j v p. let e : j ≡ 0 + j = omega arith in subst (λ n. record_of t (n + 2) (record_at t.width rest n) ≡ Ok v) e (R.each j v p)) ∙
+        ap (λ n. drop n rest) (zero-mul (t.width + 8)) in
+        let rest_is : drop 14 bs ≡ records t.bytes ds = H.rest_is ∙ sym recs in
         let a = four bs 0 all (omega arith) in
         let b = drop_more bs 4 0 (omega arith) in
         let c = drop_more bs 5 0 (omega arith) in
@@ -164,8 +160,8 @@ module _ {S : Type 0} (kind width : ℕ) (bytes : S → List ℕ) (reads : List 
     module _ (before : S → S → Bool) (order : Order before) (formed : Formed before ds) (short : length ds ≤ 1000000) where
       pub as_written : InOrder before ds h.root ↔ AsWritten before t bs ds h.root
       as_written = (
-        λ r. (r.0, sym ((received before order kind width bytes reads laws ds formed short h.root r.0).0 (r.1, r.2) ∙ bytes_are)),
-        λ r. let d = (received before order kind width bytes reads laws ds formed short h.root r.0).1 (sym r.1 ∙ sym bytes_are) in (r.0, d.0, d.1),
+        λ r. (r.0, sym ((received before order t.kind t.width t.bytes t.reads laws ds formed short h.root r.0).0 (r.1, r.2) ∙ bytes_are)),
+        λ r. let d = (received before order t.kind t.width t.bytes t.reads laws ds formed short h.root r.0).1 (sym r.1 ∙ sym bytes_are) in (r.0, d.0, d.1),
       )
 
 -- what is right by one measure is right by the other
@@ -183,6 +179,3 @@ head_few kind width capacity bs h rest H =
     let m = H.length_is in
     let p = ap (λ n. n * (width + 8)) c in
     (omega arith, omega arith)
-
-pub records_short : (count width : ℕ) → count ≤ 1000000 → width ≤ 8 → count * (width + 8) ≤ 16000000
-records_short count width h w = let m = mul-le-mul {n₁ = count} {m₁ = width + 8} {n₂ = 1000000} {m₂ = 16} h (omega arith) in omega arith

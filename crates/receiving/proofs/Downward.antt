@@ -3,7 +3,6 @@ use Rattle.std.proofs.Common.{◌≡◌, ℕ, zero, suc, ◌+◌, ◌-◌, ◌<�
 use mathlib.Core.Path.{subst⁻¹}
 use Rattle.std.specs.List.{slice_get}
 use Rattle.std.specs.Result.{is_err}
-use Rattle.std.proofs.lemmas.List.{take_at}
 use Rattle.std.proofs.lemmas.Bool.{cases_eq, false≢true}
 use Rattle.symbols.specs.Order.{Order}
 use Rattle.ledger.specs.declared.Vertex.{Vertex}
@@ -139,8 +138,8 @@ module _ {S : Type 0} (before : S → S → Bool) (order : Order before) where
             }
 
     -- all records laid down are the root's list laid down
-    pub all_laid : (root count : ℕ) → length ds ≡ count → Good ds root → Visits ds 0 root count → lay_all before row (take count (lists ds)) ≡ lay before row (codes ds root)
-    all_laid root count l g w = sym (goes w (omega arith) g).laid
+    pub all_laid : (root : ℕ) → Good ds root → Visits ds 0 root (length ds) → lay_all before row (take (length ds) (lists ds)) ≡ lay before row (codes ds root)
+    all_laid root g w = sym (goes w (omega arith) g).laid
 
   module _ (ds vs : List (Vertex S)) (formed : Formed before ds) (sound : Sound before vs) where
     -- a vertex that was found or appended
@@ -214,9 +213,9 @@ module _ {S : Type 0} (before : S → S → Bool) (order : Order before) where
                   subst⁻¹ (λ y. Good us y × (codes us y ≡ codes ds n)) (noted_below work n k p (omega arith))
                   (omega arith, ap (λ xs. codes xs (noted work n)) one.extends ∙ codes_front before order ws one.extra (noted work n) g ∙ old.1)
 
-      pub laying_full : (capacity root count : ℕ) (us : List (Vertex S)) (e : Full) → length ds ≡ count → Good ds root → Visits ds 0 root count → FoundOrAppended capacity ws (noted_vertex work v) (Err e) us → Settled before capacity vs (codes ds root) (Err e) us
-      laying_full capacity root count us e l g w (inl f) = absurd (let q = f.2 in let c : ◌≡◌ {A = ℕ} 0 1 = cc in omega arith)
-      laying_full capacity root count us e l g w (inr f) =
+      pub laying_full : (capacity root : ℕ) (us : List (Vertex S)) (e : Full) → Good ds root → Visits ds 0 root (length ds) → FoundOrAppended capacity ws (noted_vertex work v) (Err e) us → Settled before capacity vs (codes ds root) (Err e) us
+      laying_full capacity root us e g w (inl f) = absurd (let q = f.2 in let c : ◌≡◌ {A = ℕ} 0 1 = cc in omega arith)
+      laying_full capacity root us e g w (inr f) =
           let L = (pictured before order vs sound).ledger in
           let full : length ws ≡ capacity = f.1.0 in
           let one = if_new f.0 in
@@ -226,10 +225,10 @@ module _ {S : Type 0} (before : S → S → Bool) (order : Order before) where
           let next : lay before (lists ws) (codes ds (suc (suc k))) ≡ lay_all before (lists vs) (take (suc k) (lists ds)) =
           ap (λ r. lay before r (codes ds (suc (suc k)))) R.row ∙ sym (after_more ds formed (lists vs) L k few) in
           let long_next = ap length next in
-          let up = after_longer ds formed (lists vs) L (suc k) (count - suc k) (omega arith) in
-          let q : suc k + (count - suc k) ≡ count = omega arith in
+          let up = after_longer ds formed (lists vs) L (suc k) (length ds - suc k) (omega arith) in
+          let q : suc k + (length ds - suc k) ≡ length ds = omega arith in
           let up' = ap (λ n. length (lay_all before (lists vs) (take n (lists ds)))) q in
-          let all = ap length (all_laid ds formed (lists vs) L root count l g w) in
+          let all = ap length (all_laid ds formed (lists vs) L root g w) in
           (omega arith, (R.more, f.1.1 ∙ R.extends))
 
     pub laying_none : (work : List Place) → Laying before ds vs 0 vs work
@@ -240,12 +239,12 @@ module _ {S : Type 0} (before : S → S → Bool) (order : Order before) where
         by (suc zero) h = (omega arith, refl)
         by (suc (suc j)) h = absurd (omega arith)
 
-    pub laying_all : (root count k n : ℕ) (ws : List (Vertex S)) (work : List Place) → k ≡ count → length ds ≡ count → Good ds root → Visits ds 0 root count → Laying before ds vs k ws work → n ≡ noted work root → Laid before vs (codes ds root) ws n
-    laying_all root count k n ws work e l g w R q =
+    pub laying_all : (root k n : ℕ) (ws : List (Vertex S)) (work : List Place) → k ≡ length ds → Good ds root → Visits ds 0 root (length ds) → Laying before ds vs k ws work → n ≡ noted work root → Laid before vs (codes ds root) ws n
+    laying_all root k n ws work e g w R q =
         let m = R.numbers root (omega arith) in
         record {
           sound = R.sound;
-          row = R.row ∙ ap (λ x. lay_all before (lists vs) (take x (lists ds))) e ∙ all_laid ds formed (lists vs) (pictured before order vs sound).ledger root count l g w;
+          row = R.row ∙ ap (λ x. lay_all before (lists vs) (take x (lists ds))) e ∙ all_laid ds formed (lists vs) (pictured before order vs sound).ledger root g w;
           good = subst⁻¹ (Good ws) q m.0;
           is = ap (codes ws) q ∙ m.1;
         }
@@ -262,11 +261,3 @@ module _ {S : Type 0} (before : S → S → Bool) (order : Order before) where
   pub stands : (capacity : ℕ) (vs : List (Vertex S)) (t : Codes S) (ws : List (Vertex S)) (r : Result ℕ Full) → is_err r ≡ false → length ws ≤ capacity → Settled before capacity vs t r ws → Lays before capacity vs t r ws
   stands capacity vs t ws (Ok n) e room s = lands capacity vs t ws n room s
   stands capacity vs t ws (Err f) e room s = absurd (false≢true (sym e))
-
--- cut back to what there was
-pub cut_back : {S : Type 0} (vs more us ws : List (Vertex S)) (start : ℕ) → start ≡ length vs → us ≡ vs ++ more → ws ≡ take start us → ws ≡ vs
-cut_back vs more us ws start e x c = c ∙ ap (take start) x ∙ take_at _ _ _ (sym e)
-
-pub falls_back : {S : Type 0} (before : S → S → Bool) (capacity : ℕ) (vs : List (Vertex S)) (t : Codes S) (us ws : List (Vertex S)) (start : ℕ) (r : Result ℕ Full) → is_err r ≡ true → Settled before capacity vs t r us → start ≡ length vs → ws ≡ take start us → Lays before capacity vs t r ws
-falls_back before capacity vs t us ws start (Ok n) e s q c = absurd (false≢true e)
-falls_back before capacity vs t us ws start (Err f) e s q c = (s.0, cut_back vs s.1.0 us ws start q s.1.1 c)

@@ -1,9 +1,7 @@
 -- The longest code of a list, from its outer and its inner list.
-use Rattle.std.proofs.Common.{◌≡◌, ℕ, zero, suc, ◌+◌, ◌<◌, ◌≤◌, min, max, Bool, ◌⊎◌, ◌↔◌, List, [], ◌∷◌, length, get_or, set, Some, refl, ap, ◌∙◌, inl, inr, arith}
-use mathlib.Core.Path.{subst⁻¹}
+use Rattle.std.proofs.Common.{◌≡◌, ℕ, zero, suc, ◌+◌, ◌<◌, ◌≤◌, min, max, Bool, ◌⊎◌, ◌↔◌, List, [], ◌∷◌, length, Some, refl, ap, ◌∙◌, inl, inr, arith}
 use Rattle.std.specs.List.{slice_get}
-use Rattle.std.proofs.lemmas.List.{get_or-set_same, get_or-set_other}
-use Rattle.std.proofs.lemmas.Bool.{cases_eq, cases_lt}
+use Rattle.std.proofs.lemmas.Bool.{cases_lt}
 use Rattle.symbols.specs.Order.{Order}
 use Rattle.ledger.specs.declared.Vertex.{Vertex}
 use Rattle.ledger.specs.Lists.{Codes, none, blank, begun, Member, SomeCode, Proper}
@@ -11,8 +9,7 @@ use Rattle.ledger.specs.Diagrams.{Formed}
 use Rattle.ledger.specs.Ledger.{codes}
 use Rattle.ledger.proofs.Draws.{codes_formed}
 use Rattle.memory.specs.declared.work.Place.{Place}
-use Rattle.receiving.specs.Lengths.{Short, Long, longest, length_in, Measured}
-use Rattle.receiving.specs.Walks.{vacant}
+use Rattle.receiving.specs.Lengths.{Long, longest, length_in, Measured}
 
 module _ {S : Type 0} where
   pub no_longer : (t : Codes S) (c : List S) → Member t c → length c ≤ longest t
@@ -45,13 +42,6 @@ module _ {S : Type 0} where
     λ r. let h = no_longer t r.0 r.1 in let l = r.2 in omega arith,
   )
 
-  pub short_is : (t : Codes S) → (64 < longest t → ⊥) → Short t
-  short_is t h c m = let l = no_longer t c m in by l (cases_lt 64 (longest t))
-    where
-      by : length c ≤ longest t → (64 < longest t) ⊎ (longest t ≤ 64) → length c ≤ 64
-      by l (inl g) = absurd (h g)
-      by l (inr g) = omega arith
-
   -- what the places hold of a link
   pub held : (ds : List (Vertex S)) (k n : ℕ) (work : List Place) → Measured ds k work → n < k + 2 → length_in work n ≡ min (longest (codes ds n)) 65
   held ds k zero work m h = refl
@@ -67,12 +57,3 @@ module _ {S : Type 0} where
       let o : inner ≡ min (longest (codes ds v.one)) 65 = q ∙ held ds k v.one work m (omega arith) in
       let is : longest (codes ds (suc (suc k))) ≡ max (longest (codes ds v.zero)) (suc (longest (codes ds v.one))) = ap longest (codes_formed before order ds f (suc (suc k)) v at) in
       omega arith
-
-  pub measured_more : (ds : List (Vertex S)) (k : ℕ) (work : List Place) (p : Place) → k < length work → Measured ds k work → p.number ≡ min (longest (codes ds (suc (suc k)))) 65 → Measured ds (k + 1) (set work k p)
-  measured_more ds k work p h m e j l = by (cases_eq j k)
-    where
-      by : (j ≡ k) ⊎ (j ≡ k → ⊥) → (get_or (set work k p) j vacant).number ≡ min (longest (codes ds (suc (suc j)))) 65
-      by (inl s) =
-          subst⁻¹ (λ x. (get_or (set work k p) x vacant).number ≡ min (longest (codes ds (suc (suc x)))) 65) s
-          (ap (λ (q : Place). q.number) (get_or-set_same work k p vacant h) ∙ e)
-      by (inr s) = ap (λ (q : Place). q.number) (get_or-set_other work k j p vacant s) ∙ m j (omega arith)

@@ -5,6 +5,7 @@ ghost use Rattle.receiving.specs.Checks.{plain_head, head_checked};
 use symbols::WireSymbol;
 use wire::faults::ReceiveFault;
 use wire::head::{HEAD_LENGTH, Head, VERSION, split_head};
+use wire::records::record_length;
 
 // The head of a dispatch that a shelf of this capacity may hold, and the bytes of its records.
 pub(crate) fn read_head<'a, S: WireSymbol>(
@@ -23,7 +24,7 @@ pub(crate) fn read_head<'a, S: WireSymbol>(
     if head.kind != S::kind() {
         return Err(ReceiveFault::OtherKind);
     }
-    if bytes.len() != HEAD_LENGTH + head.count as usize * (S::width() + 8) {
+    if bytes.len() != HEAD_LENGTH + head.count as usize * record_length::<S>() {
         return Err(ReceiveFault::BadLength);
     }
     if head.count > capacity {

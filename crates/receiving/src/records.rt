@@ -11,7 +11,7 @@ use ledger::Vertex;
 use std::marker::{Model, PhantomData};
 use symbols::{Symbol, WireSymbol};
 use wire::faults::{FaultyRecord, RecordFault};
-use wire::records::{read_record, zero_label_after};
+use wire::records::{read_record, record_length, zero_label_after};
 
 // The vertex in record k.
 fn read_at<S: WireSymbol>(records: &[u8], k: u32) -> Result<Vertex<S>, RecordFault>
@@ -19,7 +19,7 @@ fn read_at<S: WireSymbol>(records: &[u8], k: u32) -> Result<Vertex<S>, RecordFau
     requires there { (k + 1) * (S.WireSymbol.travel.width + 8) ≤ length records.now }
     ensures { result ≡ record_of S.WireSymbol.travel (k + 2) (record_at S.WireSymbol.travel.width records.now k) }
 {
-    let size = S::width() + 8;
+    let size = record_length::<S>();
     let start = k as usize * size;
     read_record(k + 2, &records[start..start + size])
 }

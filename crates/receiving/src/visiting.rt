@@ -3,11 +3,12 @@
 //
 // No vertex is marked: once the first d vertices were passed, a lower number is one of them. So each record is read once,
 // and what waits stands in the work space, at most two places for each number.
-ghost use Rattle.std.specs.Prelude.{◌≡◌, ℕ, ◌*◌, ◌<◌, ◌≤◌, ◌↔◌, length, Some};
+ghost use Rattle.std.specs.Prelude.{◌≡◌, ℕ, ◌+◌, ◌*◌, ◌≤◌, ◌↔◌, length, Some};
 ghost use Rattle.ledger.specs.Visits.{Visits};
-ghost use Rattle.receiving.specs.Walks.{task_of, place_of, Fits, Leads, ComesDown};
+ghost use Rattle.receiving.specs.Walks.{task_of, place_of, Reaches, Fits, Leads, ComesDown};
 
 use crate::records::Records;
+use memory::stack::Stack;
 use memory::work::Place;
 use symbols::{Symbol, WireSymbol};
 
@@ -46,67 +47,42 @@ impl From<Task> for Place {
     }
 }
 
-// So many tasks wait, and so many vertices were passed.
-#[derive(Clone, Copy)]
-struct Walk {
-    height: usize,
-    passed: u32,
-}
-
 impl<'a, S: WireSymbol> Records<'a, S> {
-    // Does the last task that waits; nothing, where the vertices do not stand in order.
-    fn step(&self, work: &mut [Place], walk: Walk) -> Option<Walk>
-        requires fits { Fits work.old walk.height }
-        requires some { 0 < walk.height }
-        ensures down { ComesDown work.old walk work.new result }
-        ensures leads { (k : ℕ) → Leads self.now k work.old walk work.new result }
+    // Does a task after so many vertices were passed, and answers how many were passed then; nothing, where the vertices
+    // do not stand in order.
+    fn do_task(&self, task: Task, passed: u32, stack: &mut Stack) -> Option<u32>
+        requires reaches { Reaches stack.old.room (length stack.old.frames) task }
+        requires fits { Fits stack.old.room stack.old.frames }
+        ensures down { ComesDown stack.old.room task stack.old.frames result stack.new.frames }
+        ensures leads { (k : ℕ) → Leads self.now k task passed stack.old.frames result stack.new.frames }
+        ensures room { stack.new.room ≡ stack.old.room }
     {
-        let Walk { height, passed } = walk;
-        let top = height - 1;
-        let next = passed as u64 + 2;
-        match Task::from(work[top]) {
-            Task::Close(n) => {
-                if n as u64 != next {
-                    return None;
-                }
-                Some(Walk {
-                    height: top,
-                    passed: passed + 1,
-                })
-            }
+        let next = u64::from(passed) + 2;
+        match task {
+            Task::Close(n) if u64::from(n) == next => Some(passed + 1),
+            Task::Close(_) => None,
+            Task::Visit(n) if u64::from(n) < next => Some(passed),
             Task::Visit(n) => {
-                if (n as u64) < next {
-                    return Some(Walk {
-                        height: top,
-                        passed,
-                    });
-                }
                 let vertex = self.vertex(n)?;
-                work[top] = Task::Close(n).into();
-                work[top + 1] = Task::Visit(vertex.one).into();
-                work[top + 2] = Task::Visit(vertex.zero).into();
-                Some(Walk {
-                    height: top + 3,
-                    passed,
-                })
+                stack.push(Task::Close(n).into());
+                stack.push(Task::Visit(vertex.one).into());
+                stack.push(Task::Visit(vertex.zero).into());
+                Some(passed)
             }
         }
     }
 
     // How many vertices the walk from the root comes by, in their order; nothing, where they do not stand in order.
     pub(crate) fn passed_from(&self, root: u32, work: &mut [Place]) -> Option<u32>
-        requires some { 1 ≤ length work.old }
-        requires room { 2 * root ≤ length work.old }
+        requires { 2 * root + 1 ≤ length work.old }
         ensures { (k : ℕ) → (result ≡ Some k) ↔ Visits self.now 0 root k }
     {
-        work[0] = Task::Visit(root).into();
-        let mut walk = Walk {
-            height: 1,
-            passed: 0,
-        };
-        while walk.height > 0 {
-            walk = self.step(work, walk)?;
+        let mut stack = Stack::new(work);
+        stack.push(Task::Visit(root).into());
+        let mut passed = 0;
+        while let Some(place) = stack.pop() {
+            passed = self.do_task(Task::from(place), passed, &mut stack)?;
         }
-        Some(walk.passed)
+        Some(passed)
     }
 }

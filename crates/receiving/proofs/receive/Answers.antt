@@ -7,16 +7,6 @@ use Rattle.receiving.proofs.Accepting.{read_right}
 use Rattle.receiving.proofs.Dispatched.{head_right, head_few, as_written, ends_by}
 use Rattle.receiving.proofs.receive.Goals as goal
 
-pub checked-requires : goal.checked-requires
-checked-requires g c =
-    let w = g.S.WireSymbol.travel in
-    let H = head_right w.kind w.width c.capacity.result c.args.bytes.now c.in_ok-head.head c.in_ok-head.rest.now (sym c.in_ok-head.ensures) in
-    let f = head_few w.kind w.width c.capacity.result c.args.bytes.now c.in_ok-head.head c.in_ok-head.rest.now H in
-    let few = f.0 in
-    let e = c.capacity.ensures in
-    let b = (g.B.Shelf.bounds c.args.shelf.now).1 in
-    record { few = omega arith; long = f.1 }
-
 pub lay_checked-requires : goal.lay_checked-requires
 lay_checked-requires g c =
     let w = g.S.WireSymbol.travel in
@@ -44,7 +34,7 @@ returns-clause-answer g c = λ ready sound.
     let many = r.2 in
     let e = c.capacity.ensures in
     let b = (g.B.Shelf.bounds c.args.shelf.now).1 in
-    let right = as_written w.kind w.width w.bytes w.reads g.met.S.WireSymbol.wired c.capacity.result bs (λ i. (c.type_inv.bytes i).fits) h rest H ds r.0 many g.S.Symbol.before g.met.S.Symbol.ordered r.1 (omega arith) in
+    let right = as_written w g.met.S.WireSymbol.wired c.capacity.result bs (λ i. (c.type_inv.bytes i).fits) h rest H ds r.0 many g.S.Symbol.before g.met.S.Symbol.ordered r.1 (omega arith) in
     subst⁻¹ (λ x. ByHead g.S.Symbol.before w capacity (g.B.Shelf.vertices c.args.shelf.now) bs x c.lay_checked.result (g.B.Shelf.vertices c.lay_checked.new.shelf))
     (ap (λ n. head_checked w.kind w.width n bs) (sym e) ∙ sym c.in_ok-head.ensures)
     (subst⁻¹ (λ y. ByRecords g.S.Symbol.before w capacity (g.B.Shelf.vertices c.args.shelf.now) bs h.root y c.lay_checked.result (g.B.Shelf.vertices c.lay_checked.new.shelf)) (sym c.in_ok-records.ensures)

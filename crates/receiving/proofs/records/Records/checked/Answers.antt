@@ -1,15 +1,7 @@
-use Rattle.std.proofs.Common.{rules, ◌+◌, Err, sym, ap, ◌∙◌, mul-le-mul_right, arith}
+use Rattle.std.proofs.Common.{rules, Err, sym, ap, ◌∙◌, arith}
 use Rattle.std.proofs.lemmas.Result.{err_from_is_err_and}
-use Rattle.receiving.proofs.Checking.{reading_none, reading_stop, reading_more, reading_all, placed, not_placed}
+use Rattle.receiving.proofs.Checking.{reading_stop, reading_more, placed, not_placed}
 use Rattle.receiving.proofs.records.Records.checked.Goals as goal
-
-pub loop-place-init : goal.loop-place-init
-loop-place-init g c = reading_none g.S.Symbol.before g.met.S.Symbol.ordered _ c.args.bytes.now c.args.count
-
-pub check_record-requires : goal.check_record-requires
-check_record-requires g c =
-    let m = mul-le-mul_right {m = c.loop-place.place-counter + 1} {n = c.args.count} (g.S.WireSymbol.travel.width + 8) (omega arith) in
-    record { few = omega arith; there = omega arith }
 
 pub returns-in_err-map_err : goal.returns-in_err-map_err
 returns-in_err-map_err g c =
@@ -22,12 +14,3 @@ pub loop-place-preserved : goal.loop-place-preserved
 loop-place-preserved g c =
     reading_more g.S.Symbol.before g.met.S.Symbol.ordered _ c.args.bytes.now c.args.count c.loop-place.place-counter (omega arith) c.loop-place.invariant c.in_ok-map_err.field-0
     (sym (not_placed c.loop-place.place-counter c.check_record.result c.map_err.result _ (λ f e p. search rules) c.map_err.ensures.cases c.in_ok-map_err.field-0 c.in_ok-map_err.was) ∙ c.check_record.ensures)
-
-pub invariant_of-result : goal.invariant_of-result
-invariant_of-result g c = (
-  c.requires.few,
-  (reading_all g.S.Symbol.before g.met.S.Symbol.ordered _ c.args.bytes.now c.args.count c.loop-place.place-counter (omega arith) c.requires.long c.loop-place.invariant).0,
-)
-
-pub returns : goal.returns
-returns g c = sym (reading_all g.S.Symbol.before g.met.S.Symbol.ordered _ c.args.bytes.now c.args.count c.loop-place.place-counter (omega arith) c.requires.long c.loop-place.invariant).1

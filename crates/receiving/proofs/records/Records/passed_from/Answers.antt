@@ -1,20 +1,10 @@
-use Rattle.std.proofs.Common.{set, Some, refl, ap, subst, arith}
-use mathlib.Core.Path.{subst⁻¹}
-use Rattle.ledger.proofs.Reading.{some_same}
-use Rattle.receiving.proofs.Walking.{begins, first_fits, rest_none}
+use Rattle.std.proofs.Common.{subst}
+use Rattle.ledger.proofs.Reading.{none_some}
+use Rattle.receiving.specs.Walks.{Rest}
 use Rattle.receiving.proofs.records.Records.passed_from.Goals as goal
 
-pub loop-walk-init : goal.loop-walk-init
-loop-walk-init g c =
-    let e = ap (set c.args.work.now 0) c.into.ensures in (
-      first_fits c.args.work.now _ c.args.root c.requires.some c.requires.room e,
-      λ k. begins c.args.self.now k c.args.work.now _ c.args.root c.requires.some e,
-    )
-
-pub returns : goal.returns
-returns g c = λ k.
-    let e = rest_none c.args.self.now k c.loop-walk.work c.loop-walk.walk.height c.loop-walk.walk.passed (omega arith) in
-    let i = c.loop-walk.invariant.1 k in (
-      λ t. i.1 (subst⁻¹ (λ X. X) e (some_same refl t)),
-      λ v. ap Some (subst (λ X. X) e (i.0 v)),
-    )
+pub returns-in_err-passed : goal.returns-in_err-passed
+returns-in_err-passed g c = λ k. (
+  λ e. absurd (none_some c.from_residual.ensures e),
+  λ v. absurd (c.in_err-passed.ensures.leads k (rw c.from.ensures (subst (λ ps. Rest c.args.self.now k ps c.loop-place.passed) c.in-Some.ensures.frames ((c.loop-place.invariant.1 k).0 v)))),
+)

@@ -3,11 +3,8 @@ use Rattle.std.proofs.lemmas.Bool.{ltb-true, lt-ltb}
 use Rattle.ledger.specs.Ledger.{codes}
 use Rattle.ledger.proofs.Forming.{formed_proper}
 use Rattle.receiving.specs.Lengths.{longest}
-use Rattle.receiving.proofs.Lengthy.{held, long_is, measured_more}
+use Rattle.receiving.proofs.Lengthy.{held, long_is}
 use Rattle.receiving.proofs.records.Records.too_long.Goals as goal
-
-pub loop-k-preserved : goal.loop-k-preserved
-loop-k-preserved g c = measured_more c.args.self.now c.loop-k.k c.loop-k.work _ (omega arith) c.loop-k.invariant (c.measure-number.ensures c.loop-k.invariant)
 
 pub returns : goal.returns
 returns g c =
