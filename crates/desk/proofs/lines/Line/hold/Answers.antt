@@ -1,21 +1,18 @@
-use Rattle.std.proofs.Common.{◌≡◌, ◌+◌, ◌-◌, ◌≤◌, length, take, ap, ◌∙◌, arith}
+use Rattle.std.proofs.Common.{◌≡◌, ℕ, ◌+◌, ◌-◌, ◌≤◌, min, List, ◌++◌, length, take, sym, ap, ◌∙◌, arith}
+use Rattle.std.proofs.Math.Seq.{take-append-add}
 use Rattle.std.proofs.lemmas.List.{length-take-le}
 use Rattle.std.proofs.lemmas.Slice.{take-put_mid, drop-put_mid}
-use Rattle.desk.proofs.Answering.{held_more}
+use Rattle.std.proofs.lemmas.Grind.{common_steps}
 use Rattle.desk.proofs.lines.Line.hold.Goals as goal
 
+-- held bytes and more, cut where the room ends
+held_more : (old more part : List ℕ) (held n : ℕ) → held ≤ length old → n ≡ min (length more) (length old - held) → part ≡ take n more → take held old ++ part ≡ take (length old) (take held old ++ more)
+held_more old more part held n low is e =
+    let long = length-take-le held old low in
+    let whole : length old ≡ length (take held old) + (length old - held) = omega arith in
+    let same : take n more ≡ take (length old - held) more = grind (arith, common_steps) in
+    ap (λ s. take held old ++ s) (e ∙ same)
+    ∙ sym (ap (λ k. take k (take held old ++ more)) whole ∙ take-append-add (take held old) more (length old - held))
+
 pub returns : goal.returns
-returns c =
-    let old = c.args.self.now.room.now in
-    let more = c.args.more.now in
-    let held = c.args.self.now.held in
-    let n = c.min-n.result in
-    let is = c.min-n.ensures in
-    let part = c.copy_from_slice.new.self in
-    let zero : n - 0 ≡ n = omega arith in
-    let e = c.copy_from_slice.ensures.after ∙ ap (λ k. take k more) zero in
-    let low : held ≤ length old = omega arith in
-    let long = ap length e ∙ length-take-le n more (omega arith) in (
-      take-put_mid held (held + n - held) old part (held + n) (omega arith) (omega arith) ∙ held_more old more part held n low is e,
-      drop-put_mid held (held + n - held) old part (held + n) (omega arith) (omega arith) (omega arith),
-    )
+returns c = grind (arith, common_steps, take-put_mid, drop-put_mid, held_more)
