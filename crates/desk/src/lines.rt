@@ -1,35 +1,55 @@
-// Lines cut out of chunks of input. A line may begin in one chunk and end in another, so its bytes are held in a buffer of
-// their own. What has no room there is dropped: with room for one byte more than a line may have, a longer line still shows
-// that it is, however long it is. Each byte is looked at once and copied once.
-ghost use Rattle.std.specs.Prelude.{◌≡◌, ◌≤◌, min, length};
+// Lines cut out of chunks of input.
+ghost use Rattle.std.specs.Prelude.{◌≡◌, ◌≤◌, take, length};
 ghost use Rattle.desk.specs.Lines.{Ends, Held};
 
 // Where the first line feed stands; none, if there is none.
 pub fn find_line_feed(bytes: &[u8]) -> Option<usize>
     ensures { Ends bytes.now result }
 {
-    for (i, b) in bytes.iter().enumerate() {
-        if *b == b'\n' {
-            return Some(i);
-        }
+    bytes.iter().position(|b| *b == b'\n')
+}
+
+// A line as far as it has come. It may begin in one chunk and end in another, so its bytes are held in a buffer of their
+// own, which is lent. What has no room there is dropped: with room for one byte more than a line may have, a longer line
+// still shows that it is, however long it is. Each byte is looked at once and copied once.
+#[derive(Drop)]
+pub struct Line<'a> {
+    room: &'a mut [u8],
+    held: usize,
+    ghost within: { held ≤ length room.now },
+}
+
+impl<'a> Line<'a> {
+    // A line that has no bytes yet, in this buffer.
+    pub fn new(room: &'a mut [u8]) -> Line<'a>
+        ensures memory { result.room.now ≡ room.old }
+        ensures empty { result.held ≡ 0 }
+    {
+        Line { room, held: 0 }
     }
-    None
-}
 
-// How many bytes of so many fit.
-fn count_fitting(room: usize, bytes: usize) -> usize
-    ensures { result ≡ min bytes room }
-{
-    bytes.min(room)
-}
+    // The bytes that are held.
+    pub fn text(&self) -> &[u8]
+        ensures { result.now ≡ take self.now.held self.now.room.now }
+    {
+        &self.room[0..self.held]
+    }
 
-// Puts more bytes after the first `held` of a line, as far as there is room, and answers how many are held then.
-pub fn hold(line: &mut [u8], held: usize, more: &[u8]) -> usize
-    requires { held ≤ length line.old }
-    ensures within { result ≤ length line.new }
-    ensures answer { Held line.old held more.now result line.new }
-{
-    let n = count_fitting(line.len() - held, more.len());
-    line[held..held + n].copy_from_slice(&more[0..n]);
-    held + n
+    // Begins the next line.
+    pub fn clear(&mut self)
+        ensures memory { self.new.room.now ≡ self.old.room.now }
+        ensures empty { self.new.held ≡ 0 }
+    {
+        self.held = 0;
+    }
+
+    // Puts more bytes after those that are held, as far as there is room.
+    pub fn hold(&mut self, more: &[u8])
+        ensures { Held self.old.room.now self.old.held more.now self.new.held self.new.room.now }
+    {
+        let n = more.len().min(self.room.len() - self.held);
+        let end = self.held + n;
+        self.room[self.held..end].copy_from_slice(&more[0..n]);
+        self.held = end;
+    }
 }

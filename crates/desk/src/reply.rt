@@ -31,16 +31,16 @@ pub enum LineFault {
 impl From<TextFault> for LineFault {
     ghost from_gives = { λ fault r. r ≡ text_fault fault };
 
-    fn from(fault: TextFault) -> LineFault {
-        LineFault::Text(fault)
+    fn from(fault: TextFault) -> Self {
+        Self::Text(fault)
     }
 }
 
 impl From<Fault> for LineFault {
     ghost from_gives = { λ fault r. r ≡ store_fault fault };
 
-    fn from(fault: Fault) -> LineFault {
-        LineFault::Store(fault)
+    fn from(fault: Fault) -> Self {
+        Self::Store(fault)
     }
 }
 

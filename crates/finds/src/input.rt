@@ -1,65 +1,91 @@
-// Lines of standard input. Chunks are read as bytes and cut at line feeds; nothing is decoded.
-ghost use Rattle.std.specs.Prelude.{◌≤◌, length, IfSome, IfOk};
-ghost use Rattle.finds.specs.Parts.{Within};
-
-use desk::lines::{find_line_feed, hold};
+// A conversation on standard input and output, line by line. Chunks are read as bytes and cut at line feeds; nothing is
+// decoded.
+use desk::lines::{Line, find_line_feed};
+use std::alloc::Global;
 use std::io;
 use std::io::{BufRead, BufReader, BufWriter, Error, ErrorKind, Stdin, Stdout, Write};
 
-// What a chunk had of a line, of which so many bytes are held.
+// What a chunk had of a line.
 enum Part {
     // There is no more input.
     End,
     // The line goes on.
-    More(usize),
+    More,
     // The line ended.
-    Line(usize),
+    Line,
 }
 
-// Takes what the next chunk has of a line.
-fn take_part(input: &mut BufReader<Stdin>, line: &mut [u8], held: usize) -> io::Result<Part>
-    requires { held ≤ length line.old }
-    ensures { IfOk result (λ part. Within (length line.new) part) }
-{
-    let chunk = input.fill_buf()?;
-    if chunk.is_empty() {
-        return Ok(Part::End);
-    }
-    match find_line_feed(chunk) {
-        Some(end) => {
-            let held = hold(line, held, &chunk[0..end]);
-            input.consume(end + 1);
-            Ok(Part::Line(held))
-        }
-        None => {
-            let length = chunk.len();
-            let held = hold(line, held, chunk);
-            input.consume(length);
-            Ok(Part::More(held))
-        }
-    }
+#[derive(Drop)]
+pub struct Conversation<'a> {
+    input: BufReader<Stdin>,
+    output: BufWriter<Stdout>,
+    line: Line<'a>,
 }
 
-// The next line, at the start of `line` as far as there is room, and how many bytes are held; none at the end of input.
-// Answers are written out before each read that may have to wait.
-pub fn next_line(
-    input: &mut BufReader<Stdin>,
-    output: &mut BufWriter<Stdout>,
-    line: &mut [u8],
-) -> io::Result<Option<usize>>
-    ensures { IfOk result (λ o. IfSome o (λ n. n ≤ length line.new)) }
-{
-    let mut held = 0;
-    for _ in 0..u64::MAX {
-        if input.buffer().is_empty() {
-            output.flush()?;
+impl<'a> Conversation<'a> {
+    // One that has read nothing yet, and that holds lines in this buffer.
+    pub fn new(heap: Global, input: Stdin, output: Stdout, room: &'a mut [u8]) -> io::Result<Self> {
+        Ok(Conversation {
+            input: BufReader::new(heap, input)?,
+            output: BufWriter::new(heap, output)?,
+            line: Line::new(room),
+        })
+    }
+
+    // Takes what the next chunk has of the line.
+    fn take_part(&mut self) -> io::Result<Part> {
+        let chunk = self.input.fill_buf()?;
+        if chunk.is_empty() {
+            return Ok(Part::End);
         }
-        match take_part(input, line, held)? {
-            Part::More(n) => held = n,
-            Part::Line(n) => return Ok(Some(n)),
-            Part::End if held == 0 => return Ok(None),
-            Part::End => return Ok(Some(held)),
+        match find_line_feed(chunk) {
+            Some(end) => {
+                self.line.hold(&chunk[0..end]);
+                self.input.consume(end + 1);
+                Ok(Part::Line)
+            }
+            None => {
+                let length = chunk.len();
+                self.line.hold(chunk);
+                self.input.consume(length);
+                Ok(Part::More)
+            }
         }
     }
-    Err(Error::from(ErrorKind::TimedOut))
+
+    // Reads the next line, as far as there is room; false at the end of input. Answers are written out before each read
+    // that may have to wait.
+    fn read_line(&mut self) -> io::Result<bool> {
+        self.line.clear();
+        // By count: no loop without an end is allowed.
+        for _ in 0..u64::MAX {
+            if self.input.buffer().is_empty() {
+                self.output.flush()?;
+            }
+            match self.take_part()? {
+                Part::More => {}
+                Part::Line => return Ok(true),
+                Part::End => return Ok(!self.line.text().is_empty()),
+            }
+        }
+        Err(Error::from(ErrorKind::TimedOut))
+    }
+
+    // The next line, as far as there is room; none at the end of input.
+    pub fn next_line(&mut self) -> io::Result<Option<&[u8]>> {
+        if self.read_line()? {
+            return Ok(Some(self.line.text()));
+        }
+        Ok(None)
+    }
+
+    // Writes an answer.
+    pub fn answer(&mut self, text: &[u8]) -> io::Result<()> {
+        self.output.write_all(text)
+    }
+
+    // Writes out the answers so far.
+    pub fn end(&mut self) -> io::Result<()> {
+        self.output.flush()
+    }
 }

@@ -9,10 +9,10 @@ mod session;
 
 use commands::command::MAX_LINE;
 use commands::kinds::{Kind, read_kind};
+use input::Conversation;
 use letters::Letter;
 use session::converse;
 use std::io;
-use std::io::{BufReader, BufWriter, Write};
 use steps::{Step, Unit};
 
 // A line is held with room for one byte more than it may have: so a longer one shows.
@@ -28,24 +28,23 @@ const STEP: Step = Step {
 
 fn main(rt: HostRuntime) -> io::Result<()> {
     let heap = rt.alloc();
-    let mut input = BufReader::new(heap, rt.stdin())?;
-    let mut output = BufWriter::new(heap, rt.stdout())?;
-    let mut line = vec![in heap; 0u8; LINE_ROOM]?;
-    let Some(held) = input::next_line(&mut input, &mut output, &mut line)? else {
+    let mut room = vec![in heap; 0u8; LINE_ROOM]?;
+    let mut lines = Conversation::new(heap, rt.stdin(), rt.stdout(), &mut room)?;
+    let Some(line) = lines.next_line()? else {
         return Ok(());
     };
-    match read_kind(&line[0..held]) {
+    match read_kind(line) {
         Some(Kind::Letters) => {
-            output.write_all(b"LETTERS\n")?;
-            converse(heap, LETTER, &mut input, &mut output, &mut line)
+            lines.answer(b"LETTERS\n")?;
+            converse(heap, LETTER, &mut lines)
         }
         Some(Kind::Steps) => {
-            output.write_all(b"STEPS\n")?;
-            converse(heap, STEP, &mut input, &mut output, &mut line)
+            lines.answer(b"STEPS\n")?;
+            converse(heap, STEP, &mut lines)
         }
         None => {
-            output.write_all(b"REFUSED 18\n")?;
-            output.flush()
+            lines.answer(b"REFUSED 18\n")?;
+            lines.end()
         }
     }
 }

@@ -1,5 +1,5 @@
 // A conversation over one kind of symbol, from the second line on.
-use crate::input::next_line;
+use crate::input::Conversation;
 use bucket_shelf::{BucketShelf, Entry};
 use desk::serve::serve;
 use ledger::Vertex;
@@ -8,7 +8,7 @@ use memory::work::Place;
 use recall_tables::{Slot, SlotTable};
 use std::alloc::Global;
 use std::io;
-use std::io::{BufReader, BufWriter, Error, ErrorKind, Stdin, Stdout, Write};
+use std::io::{Error, ErrorKind};
 use store::store::Store;
 use texts::TextSymbol;
 
@@ -52,9 +52,7 @@ const BLANK_SLOT: Slot = Slot {
 pub fn converse<S: TextSymbol + Clone>(
     heap: Global,
     blank: S,
-    input: &mut BufReader<Stdin>,
-    output: &mut BufWriter<Stdout>,
-    line: &mut [u8],
+    lines: &mut Conversation<'_>,
 ) -> io::Result<()> {
     let vertex = Vertex {
         label: blank,
@@ -71,21 +69,22 @@ pub fn converse<S: TextSymbol + Clone>(
     let shelf = BucketShelf::new(&mut records, &mut heads);
     let recall = SlotTable::new(&mut slots);
     let mut store = Store::fit_out(shelf, recall);
+    // By count: no loop without an end is allowed.
     for _ in 0..u64::MAX {
-        let Some(held) = next_line(input, output, line)? else {
-            return output.flush();
+        let Some(line) = lines.next_line()? else {
+            return lines.end();
         };
-        match serve(
+        let Ok(n) = serve(
             &mut store,
-            &line[0..held],
+            line,
             &mut code,
             &mut work,
             &mut text,
             &mut answer,
-        ) {
-            Ok(n) => output.write_all(&answer[0..n])?,
-            Err(_) => return Err(Error::from(ErrorKind::WriteZero)),
-        }
+        ) else {
+            return Err(Error::from(ErrorKind::WriteZero));
+        };
+        lines.answer(&answer[0..n])?;
     }
     Err(Error::from(ErrorKind::TimedOut))
 }

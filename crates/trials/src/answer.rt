@@ -1,11 +1,26 @@
 // What a call answers, as text.
-use std::alloc::{AllocError, Global};
-use std::fmt;
+use std::alloc::AllocError;
+use std::{fmt, io, str};
 use store::fault::Fault;
 use texts::TextSymbol;
 
 // No text of a code in these tables is longer.
 const LONGEST_TEXT: usize = 64;
+
+// Makes the calls of a table, one after another: a line for each says what is called, and what it answers.
+pub fn run_table<C: Copy + fmt::Display, F: FnMut(C) -> Result<String, AllocError>>(
+    rt: &HostRuntime,
+    table: &[C],
+    mut make: F,
+) -> io::Result<()>
+    requires { F.IsAlwaysCallable make }
+{
+    for call in table {
+        let answer = make(*call)?;
+        println!(rt; "{call}: {answer}")?;
+    }
+    Ok(())
+}
 
 // A code's text as a line shows it: a long one by its length.
 #[derive(Clone, Copy)]
@@ -22,78 +37,60 @@ impl<'a> fmt::Display for Code<'a> {
     }
 }
 
-// A refusal, with its place where it carries one.
-fn refused(heap: Global, fault: Fault) -> Result<String, AllocError> {
-    let refusal = fault.refusal();
-    let number = refusal.number;
-    let place = refusal.detail;
-    if let Fault::NoSuchList { .. } = fault {
-        return format!(in heap; "refused {number}, place {place}");
-    }
-    format!(in heap; "refused {number}")
-}
-
-pub fn number(heap: Global, answer: Result<u32, Fault>) -> Result<String, AllocError> {
-    match answer {
-        Ok(n) => format!(in heap; "{n}"),
-        Err(fault) => refused(heap, fault),
-    }
-}
-
-pub fn count(heap: Global, answer: Result<u64, Fault>) -> Result<String, AllocError> {
-    match answer {
-        Ok(n) => format!(in heap; "{n}"),
-        Err(fault) => refused(heap, fault),
-    }
-}
-
-pub fn yes_or_no(heap: Global, answer: Result<bool, Fault>) -> Result<String, AllocError> {
-    match answer {
-        Ok(true) => format!(in heap; "yes"),
-        Ok(false) => format!(in heap; "no"),
-        Err(fault) => refused(heap, fault),
-    }
-}
-
 // A code by its text.
-fn text_of<S: TextSymbol>(heap: Global, symbols: &[S]) -> Result<String, AllocError> {
-    let mut bytes = vec![in heap; b' '; LONGEST_TEXT]?;
-    let Ok(length) = S::write_code(symbols, bytes.as_mut_slice()) else {
-        return format!(in heap; "a longer text");
-    };
-    bytes.truncate(length);
-    match String::from_utf8(bytes) {
-        Ok(text) => format!(in heap; "{}", Code(text.as_str())),
-        Err(_) => format!(in heap; "no text"),
-    }
-}
+#[derive(Clone, Copy)]
+pub struct Spelled<'a, S>(pub &'a [S]);
 
-// A picked code: the first symbols of an output.
-pub fn picked<S: TextSymbol>(
-    heap: Global,
-    answer: Result<usize, Fault>,
-    out: Vec<S>,
-) -> Result<String, AllocError> {
-    let mut out = out;
-    match answer {
-        Ok(length) => {
-            out.truncate(length);
-            text_of(heap, out.as_slice())
+impl<'a, S: TextSymbol> fmt::Display for Spelled<'a, S> {
+    fn fmt<W: fmt::Write>(&self, f: &mut fmt::Formatter<W>) -> fmt::Result {
+        let mut bytes = [b' '; LONGEST_TEXT];
+        let Ok(length) = S::write_code(self.0, &mut bytes) else {
+            return write!(f, "a longer text");
+        };
+        match str::from_utf8(&bytes[0..length]) {
+            Ok(text) => write!(f, "{}", Code(text)),
+            Err(_) => write!(f, "no text"),
         }
-        Err(fault) => refused(heap, fault),
     }
 }
 
-// What look answers: the label and both links, or nothing.
-pub fn vertex<S: TextSymbol>(
-    heap: Global,
-    answer: Option<(S, u32, u32)>,
-) -> Result<String, AllocError> {
-    let Some((label, zero, one)) = answer else {
-        return format!(in heap; "nothing");
-    };
-    let mut symbols = Vec::new(heap);
-    symbols.push(label)?;
-    let text = text_of(heap, symbols.as_slice())?;
-    format!(in heap; "{text}, {zero}, {one}")
+#[derive(Clone, Copy)]
+pub struct YesOrNo(pub bool);
+
+impl fmt::Display for YesOrNo {
+    fn fmt<W: fmt::Write>(&self, f: &mut fmt::Formatter<W>) -> fmt::Result {
+        f.write_str(if self.0 { "yes" } else { "no" })
+    }
+}
+
+// What is found, or nothing.
+#[derive(Clone, Copy)]
+pub struct Found<T>(pub Option<T>);
+
+impl<T: fmt::Display> fmt::Display for Found<T> {
+    fn fmt<W: fmt::Write>(&self, f: &mut fmt::Formatter<W>) -> fmt::Result {
+        match &self.0 {
+            Some(found) => write!(f, "{found}"),
+            None => write!(f, "nothing"),
+        }
+    }
+}
+
+// What a call of a store answers, or its refusal, with its place where it carries one.
+#[derive(Clone, Copy)]
+pub struct Told<T>(pub Result<T, Fault>);
+
+impl<T: fmt::Display> fmt::Display for Told<T> {
+    fn fmt<W: fmt::Write>(&self, f: &mut fmt::Formatter<W>) -> fmt::Result {
+        match &self.0 {
+            Ok(answer) => write!(f, "{answer}"),
+            Err(fault) => {
+                let number = fault.refusal().number;
+                match *fault {
+                    Fault::NoSuchList { place } => write!(f, "refused {number}, place {place}"),
+                    _ => write!(f, "refused {number}"),
+                }
+            }
+        }
+    }
 }

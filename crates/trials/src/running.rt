@@ -1,6 +1,6 @@
 // Running a table on a store: over a row shelf with the blank table, and over a bucket shelf with a slot table, so that
 // the same calls must answer the same.
-use crate::answer;
+use crate::answer::{Spelled, Told, YesOrNo, run_table};
 use crate::call::Call;
 use bucket_shelf::{BucketShelf, Entry};
 use ledger::Vertex;
@@ -19,6 +19,17 @@ use texts::TextSymbol;
 pub struct Memory {
     pub capacity: usize,
     pub places: usize,
+}
+
+impl Memory {
+    // Just as much work space as is needed.
+    pub fn enough(capacity: u8) -> Self {
+        let capacity = usize::from(capacity);
+        Memory {
+            capacity,
+            places: 2 * capacity + 256,
+        }
+    }
 }
 
 // A place as an earlier call may have left it.
@@ -51,107 +62,77 @@ fn old_vertex<S: TextSymbol + Clone>(label: S) -> Vertex<S> {
     }
 }
 
-// Reads a code of at most 65 symbols, one more than a call takes. A text that spells no code gives the empty code; the
-// tables have no such text.
-fn read_text<S: TextSymbol + Clone>(
+// A store, and what its calls are lent: memory for codes as an earlier use left it, full of one symbol, and work space.
+#[derive(Drop)]
+struct Trial<S: TextSymbol + Clone, B: Shelf<S> + Drop, R: RecallTable + Drop> {
     heap: Global,
+    store: Store<S, B, R>,
     old: S,
-    text: &str,
-) -> Result<Vec<S>, AllocError> {
-    let mut code = vec![in heap; old; 65]?;
-    match S::read_code(text.as_bytes(), code.as_mut_slice()) {
-        Ok(length) => code.truncate(length),
-        Err(_) => code.truncate(0),
+    work: Vec<Place>,
+}
+
+impl<S: TextSymbol + Clone, B: Shelf<S> + Drop, R: RecallTable + Drop> Trial<S, B, R> {
+    // Reads a code of at most 65 symbols, one more than a call takes. A text that spells no code gives the empty code; the
+    // tables have no such text.
+    fn read(&self, text: &str) -> Result<Vec<S>, AllocError> {
+        let mut code = vec![in self.heap; self.old; 65]?;
+        let length = S::read_code(text.as_bytes(), &mut code).unwrap_or(0);
+        code.truncate(length);
+        Ok(code)
     }
-    Ok(code)
-}
 
-fn add<S: TextSymbol + Clone, B: Shelf<S>, R: RecallTable>(
-    heap: Global,
-    store: &mut Store<S, B, R>,
-    old: S,
-    work: &mut [Place],
-    text: &str,
-    list: u32,
-) -> Result<String, AllocError> {
-    let code = read_text(heap, old, text)?;
-    answer::number(heap, store.add(list, code.as_slice(), work))
-}
-
-fn remove<S: TextSymbol + Clone, B: Shelf<S>, R: RecallTable>(
-    heap: Global,
-    store: &mut Store<S, B, R>,
-    old: S,
-    work: &mut [Place],
-    text: &str,
-    list: u32,
-) -> Result<String, AllocError> {
-    let code = read_text(heap, old, text)?;
-    answer::number(heap, store.remove(list, code.as_slice(), work))
-}
-
-fn holds<S: TextSymbol + Clone, B: Shelf<S>, R: RecallTable>(
-    heap: Global,
-    store: &Store<S, B, R>,
-    old: S,
-    text: &str,
-    list: u32,
-) -> Result<String, AllocError> {
-    let code = read_text(heap, old, text)?;
-    answer::yes_or_no(heap, store.holds(list, code.as_slice()))
-}
-
-fn under<S: TextSymbol + Clone, B: Shelf<S>, R: RecallTable>(
-    heap: Global,
-    store: &Store<S, B, R>,
-    old: S,
-    text: &str,
-    list: u32,
-) -> Result<String, AllocError> {
-    let code = read_text(heap, old, text)?;
-    answer::number(heap, store.under(list, code.as_slice()))
-}
-
-fn pick<S: TextSymbol + Clone, B: Shelf<S>, R: RecallTable>(
-    heap: Global,
-    store: &Store<S, B, R>,
-    old: S,
-    work: &mut [Place],
-    list: u32,
-    k: u64,
-    room: usize,
-) -> Result<String, AllocError> {
-    let mut out = vec![in heap; old; room]?;
-    let length = store.pick(list, k, out.as_mut_slice(), work);
-    answer::picked(heap, length, out)
-}
-
-// Makes one call, and tells what it answers.
-fn make<S: TextSymbol + Clone, B: Shelf<S>, R: RecallTable>(
-    heap: Global,
-    store: &mut Store<S, B, R>,
-    old: S,
-    work: &mut [Place],
-    call: Call,
-) -> Result<String, AllocError> {
-    match call {
-        Call::Add(text, list) => add(heap, store, old, work, text, list),
-        Call::Remove(text, list) => remove(heap, store, old, work, text, list),
-        Call::Join(rule, first, second) => answer::number(
-            heap,
-            store.join(rule, first, second, work),
-        ),
-        Call::Holds(text, list) => holds(heap, store, old, text, list),
-        Call::Under(list, text) => under(heap, store, old, text, list),
-        Call::Count(list) => answer::count(heap, store.count(list, work)),
-        Call::Vertices(list) => answer::number(heap, store.vertices(list, work)),
-        Call::Pick(list, k, room) => pick(heap, store, old, work, list, k, room),
-        Call::Look(n) => answer::vertex(heap, store.look(n)),
-        Call::Used => answer::number(heap, Ok(store.used())),
+    // Makes one call, and tells what it answers.
+    fn make(&mut self, call: Call) -> Result<String, AllocError> {
+        let heap = self.heap;
+        match call {
+            Call::Add(text, list) => {
+                let code = self.read(text)?;
+                format!(in heap; "{}", Told(self.store.add(list, &code, &mut self.work)))
+            }
+            Call::Remove(text, list) => {
+                let code = self.read(text)?;
+                format!(in heap; "{}", Told(self.store.remove(list, &code, &mut self.work)))
+            }
+            Call::Join(rule, first, second) => {
+                format!(in heap;
+                    "{}",
+                    Told(self.store.join(rule, first, second, &mut self.work))
+                )
+            }
+            Call::Holds(text, list) => {
+                let code = self.read(text)?;
+                format!(in heap; "{}", Told(self.store.holds(list, &code).map(YesOrNo)))
+            }
+            Call::Under(list, text) => {
+                let code = self.read(text)?;
+                format!(in heap; "{}", Told(self.store.under(list, &code)))
+            }
+            Call::Count(list) => format!(in heap;
+                "{}",
+                Told(self.store.count(list, &mut self.work))
+            ),
+            Call::Vertices(list) => {
+                format!(in heap; "{}", Told(self.store.vertices(list, &mut self.work)))
+            }
+            Call::Pick(list, k, room) => {
+                let mut out = vec![in heap; self.old; room]?;
+                let length = self.store.pick(list, k, &mut out, &mut self.work);
+                out.truncate(length.unwrap_or(0));
+                format!(in heap; "{}", Told(length.map(|_| Spelled(out.as_slice()))))
+            }
+            Call::Look(n) => {
+                let Some((label, zero, one)) = self.store.look(n) else {
+                    return format!(in heap; "nothing");
+                };
+                let label = vec![in heap; label; 1]?;
+                format!(in heap; "{}, {zero}, {one}", Spelled(&label))
+            }
+            Call::Used => format!(in heap; "{}", self.store.used()),
+        }
     }
 }
 
-// Makes the calls of a table, one after another, on a store over this shelf and this recall table.
+// Makes the calls of a table on a store over this shelf and this recall table.
 fn run<S: TextSymbol + Clone, B: Shelf<S> + Drop, R: RecallTable + Drop>(
     rt: &HostRuntime,
     shelf: B,
@@ -161,13 +142,13 @@ fn run<S: TextSymbol + Clone, B: Shelf<S> + Drop, R: RecallTable + Drop>(
     table: &[Call],
 ) -> io::Result<()> {
     let heap = rt.alloc();
-    let mut work = vec![in heap; OLD_PLACE; places]?;
-    let mut store = Store::fit_out(shelf, recall);
-    for call in table {
-        let answer = make(heap, &mut store, old, work.as_mut_slice(), *call)?;
-        println!(rt; "{call}: {answer}")?;
-    }
-    Ok(())
+    let mut trial = Trial {
+        heap,
+        store: Store::fit_out(shelf, recall),
+        old,
+        work: vec![in heap; OLD_PLACE; places]?,
+    };
+    run_table(rt, table, |call| trial.make(call))
 }
 
 fn on_row_shelf<S: TextSymbol + Clone>(
@@ -213,8 +194,9 @@ pub fn run_on_both<S: TextSymbol + Clone>(
     memory: Memory,
     table: &[Call],
 ) -> io::Result<()> {
-    println!(rt; "== {title}; row shelf, blank table")?;
+    let capacity = memory.capacity;
+    println!(rt; "== {title}, capacity {capacity}; row shelf, blank table")?;
     on_row_shelf(rt, old, memory, table)?;
-    println!(rt; "== {title}; bucket shelf, slot table")?;
+    println!(rt; "== {title}, capacity {capacity}; bucket shelf, slot table")?;
     on_bucket_shelf(rt, old, memory, table)
 }

@@ -210,45 +210,26 @@ const TRENCHES: [Call; 11] = [
     Call::Holds("C2", 5),
 ];
 
-// A table of calls on lists of letters.
-fn on_letters(
-    rt: &HostRuntime,
-    title: &str,
-    capacity: usize,
-    places: usize,
-    table: &[Call],
-) -> io::Result<()> {
-    run_on_both(rt, title, Letter::Tilde, Memory { capacity, places }, table)
-}
+// What memory for symbols holds before it is used.
+const OLD_STEP: Step = Step {
+    unit: Unit::Photo,
+    number: 9,
+};
 
-fn on_steps(
-    rt: &HostRuntime,
-    title: &str,
-    capacity: usize,
-    places: usize,
-    table: &[Call],
-) -> io::Result<()> {
-    let old = Step {
-        unit: Unit::Photo,
-        number: 9,
-    };
-    run_on_both(rt, title, old, Memory { capacity, places }, table)
-}
-
-// Work space is just as much as is needed, 2 × capacity + 256 places, but for one table.
 pub fn run_all(rt: &HostRuntime) -> io::Result<()> {
-    on_letters(rt, "worked calls, capacity 10", 10, 276, &WORKED)?;
-    on_letters(rt, "full, capacity 2", 2, 260, &FULL)?;
-    on_letters(rt, "half laid, capacity 3", 3, 262, &HALF_LAID)?;
-    on_letters(rt, "joined in vain, capacity 5", 5, 266, &JOINED_IN_VAIN)?;
-    on_letters(rt, "joined, capacity 13", 13, 282, &JOINED)?;
-    on_letters(rt, "refused, capacity 100", 100, 456, &REFUSED)?;
-    on_letters(
-        rt,
-        "one place short, capacity 10",
-        10,
-        275,
-        &ONE_PLACE_SHORT,
-    )?;
-    on_steps(rt, "trenches, capacity 10", 10, 276, &TRENCHES)
+    let on_letters = |title: &str, memory: Memory, table: &[Call]| {
+        run_on_both(rt, title, Letter::Tilde, memory, table)
+    };
+    let short = Memory {
+        capacity: 10,
+        places: 275,
+    };
+    on_letters("worked calls", Memory::enough(10), &WORKED)?;
+    on_letters("full", Memory::enough(2), &FULL)?;
+    on_letters("half laid", Memory::enough(3), &HALF_LAID)?;
+    on_letters("joined in vain", Memory::enough(5), &JOINED_IN_VAIN)?;
+    on_letters("joined", Memory::enough(13), &JOINED)?;
+    on_letters("refused", Memory::enough(100), &REFUSED)?;
+    on_letters("one place short", short, &ONE_PLACE_SHORT)?;
+    run_on_both(rt, "trenches", OLD_STEP, Memory::enough(10), &TRENCHES)
 }

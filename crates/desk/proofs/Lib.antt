@@ -1,2 +1,0 @@
-pub mod Cutting
-pub mod Answering
