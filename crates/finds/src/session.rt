@@ -3,7 +3,6 @@ use crate::input::Conversation;
 use bucket_shelf::{BucketShelf, Entry};
 use desk::serve::serve;
 use ledger::Vertex;
-use memory::recall::Question;
 use memory::work::Place;
 use recall_tables::{Slot, SlotTable};
 use std::alloc::Global;
@@ -29,25 +28,6 @@ const CODE_ROOM: usize = 65;
 // More than the text of any code, and the longest answer line.
 const TEXT_ROOM: usize = 1024;
 
-const BLANK_PLACE: Place = Place {
-    state: 0,
-    list: 0,
-    other: 0,
-    number: 0,
-    count: 0,
-};
-
-const BLANK_SLOT: Slot = Slot {
-    question: Question {
-        rule: 0,
-        first: 0,
-        second: 0,
-    },
-    answer: 0,
-    turn: 0,
-    filled: 0,
-};
-
 // Serves the lines that are left, each with one answer line. The symbol is any one, to fill memory with.
 pub fn converse<S: TextSymbol + Clone>(
     heap: Global,
@@ -61,8 +41,8 @@ pub fn converse<S: TextSymbol + Clone>(
     };
     let mut records = vec![in heap; Entry { vertex, next: 0 }; CAPACITY]?;
     let mut heads = vec![in heap; 0u32; HEADS]?;
-    let mut slots = vec![in heap; BLANK_SLOT; SLOTS]?;
-    let mut work = vec![in heap; BLANK_PLACE; PLACES]?;
+    let mut slots = vec![in heap; Slot::default(); SLOTS]?;
+    let mut work = vec![in heap; Place::default(); PLACES]?;
     let mut code = vec![in heap; blank; CODE_ROOM]?;
     let mut text = vec![in heap; 0u8; TEXT_ROOM]?;
     let mut answer = vec![in heap; 0u8; TEXT_ROOM]?;

@@ -4,7 +4,7 @@ ghost use Rattle.memory.specs.declared.recall.Question.{Question};
 ghost use Rattle.memory.specs.Tables.{Finite, Told};
 
 // What may be recalled: the answer to a join by a rule of two list numbers.
-#[derive(Clone, Copy, PartialEq, Eq)]
+#[derive(Clone, Copy, Default, PartialEq, Eq)]
 pub struct Question {
     pub rule: u8,
     pub first: u32,

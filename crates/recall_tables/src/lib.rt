@@ -36,7 +36,7 @@ impl RecallTable for Blank {
 
 // One slot, and one note: the entry with the turn in which it came, and beside it the number of the slot that was
 // filled in the turn of this record's own place. Plain numbers, since the memory is lent as it lies.
-#[derive(Clone, Copy)]
+#[derive(Clone, Copy, Default)]
 pub struct Slot {
     pub question: Question,
     pub answer: u32,

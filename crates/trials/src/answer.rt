@@ -2,6 +2,7 @@
 use std::alloc::AllocError;
 use std::{fmt, io, str};
 use store::fault::Fault;
+use symbols::Refusal;
 use texts::TextSymbol;
 
 // No text of a code in these tables is longer.
@@ -85,7 +86,7 @@ impl<T: fmt::Display> fmt::Display for Told<T> {
         match &self.0 {
             Ok(answer) => write!(f, "{answer}"),
             Err(fault) => {
-                let number = fault.refusal().number;
+                let number = Refusal::from(*fault).number;
                 match *fault {
                     Fault::NoSuchList { place } => write!(f, "refused {number}, place {place}"),
                     _ => write!(f, "refused {number}"),

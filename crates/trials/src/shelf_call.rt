@@ -21,7 +21,7 @@ pub enum ShelfCall {
 
 impl fmt::Display for Drawn {
     fn fmt<W: fmt::Write>(&self, f: &mut fmt::Formatter<W>) -> fmt::Result {
-        let label = char::from(self.0.to_byte());
+        let label = char::from(u8::from(self.0));
         let zero = self.1;
         let one = self.2;
         write!(f, "({label}, {zero}, {one})")
