@@ -52,7 +52,8 @@ fn left_of(before: u64, these: Option<u64>) -> Option<u64>
     before.checked_sub(these?)
 }
 
-// What this code is.
+// What this code is. The shelf and the work space stay two: what holds of both holds on sound shelves alone, so no type
+// keeps it.
 fn turn_at<S: Symbol, B: Shelf<S>>(shelf: &B, spot: Spot, work: &[Place]) -> Turn<S>
     ensures below { Lower spot result }
     ensures value { Walked S.Symbol.before (B.Shelf.vertices shelf.now) spot work.now → Leads (B.Shelf.vertices shelf.now) spot result }
@@ -64,19 +65,19 @@ fn turn_at<S: Symbol, B: Shelf<S>>(shelf: &B, spot: Spot, work: &[Place]) -> Tur
     let Some(later) = spot.before.checked_sub(empty) else {
         return Turn::Ends;
     };
-    let Some(left) = left_of(later, tally_at(work, one).codes) else {
-        return Turn::Takes(
+    match left_of(later, tally_at(work, one).codes) {
+        Some(left) => Turn::Passes(Spot {
+            list: zero,
+            before: empty + left,
+        }),
+        None => Turn::Takes(
             label,
             Spot {
                 list: one,
                 before: later,
             },
-        );
-    };
-    Turn::Passes(Spot {
-        list: zero,
-        before: empty + left,
-    })
+        ),
+    }
 }
 
 // Makes a turn, and writes the label that it takes; nothing where the code ends.
@@ -94,10 +95,7 @@ fn advance<S: Symbol, B: Shelf<S>>(
 {
     match turn_at(shelf, course.rest, work) {
         Turn::Ends => None,
-        Turn::Passes(rest) => Some(Course {
-            rest,
-            length: course.length,
-        }),
+        Turn::Passes(rest) => Some(Course { rest, ..course }),
         Turn::Takes(label, rest) => {
             if course.length >= LONGEST_CODE {
                 return None;
