@@ -7,7 +7,7 @@ ghost use Rattle.ledger.specs.Ledger.{codes};
 ghost use Rattle.ledger.specs.Ordered.{ordered};
 ghost use Rattle.counting.specs.Tallies.{Counted};
 ghost use Rattle.counting.specs.Picks.{Picked, PickKeeps, Short, Writes};
-ghost use Rattle.counting.specs.Courses.{Advances, AtMost, Falls, Keeps, Leads, LeftOf, Lower, Walked};
+ghost use Rattle.counting.specs.Courses.{Advances, AtMost, Falls, Keeps, Leads, LeftOf, Lower, Walkable};
 
 use crate::tallying::{tally_at, tally_up_to};
 use memory::reading::read_vertex;
@@ -56,7 +56,7 @@ fn left_of(before: u64, these: Option<u64>) -> Option<u64>
 // keeps it.
 fn turn_at<S: Symbol, B: Shelf<S>>(shelf: &B, spot: Spot, work: &[Place]) -> Turn<S>
     ensures below { Lower spot result }
-    ensures value { Walked S.Symbol.before (B.Shelf.vertices shelf.now) spot work.now → Leads (B.Shelf.vertices shelf.now) spot result }
+    ensures value { Walkable S.Symbol.before (B.Shelf.vertices shelf.now) spot work.now → Leads (B.Shelf.vertices shelf.now) spot result }
 {
     let Some((label, zero, one)) = read_vertex(shelf, spot.list) else {
         return Turn::Ends;
@@ -91,7 +91,7 @@ fn advance<S: Symbol, B: Shelf<S>>(
     requires output { 64 ≤ length out.old }
     ensures below { Falls course result }
     ensures kept { Keeps out.old result out.new }
-    ensures value { Walked S.Symbol.before (B.Shelf.vertices shelf.now) course.rest work.now → Advances (B.Shelf.vertices shelf.now) course out.old result out.new }
+    ensures value { Walkable S.Symbol.before (B.Shelf.vertices shelf.now) course.rest work.now → Advances (B.Shelf.vertices shelf.now) course out.old result out.new }
 {
     match turn_at(shelf, course.rest, work) {
         Turn::Ends => None,
@@ -113,7 +113,7 @@ fn advance<S: Symbol, B: Shelf<S>>(
 fn write_code<S: Symbol, B: Shelf<S>>(shelf: &B, spot: Spot, out: &mut [S], work: &[Place]) -> usize
     requires output { 64 ≤ length out.old }
     ensures kept { (result ≤ 64) × (drop result out.new ≡ drop result out.old) }
-    ensures value { Walked S.Symbol.before (B.Shelf.vertices shelf.now) spot work.now → Short (codes (B.Shelf.vertices shelf.now) spot.list) → Writes (ordered (codes (B.Shelf.vertices shelf.now) spot.list)) spot.before out.old result out.new }
+    ensures value { Walkable S.Symbol.before (B.Shelf.vertices shelf.now) spot work.now → Short (codes (B.Shelf.vertices shelf.now) spot.list) → Writes (ordered (codes (B.Shelf.vertices shelf.now) spot.list)) spot.before out.old result out.new }
 {
     let mut course = Course {
         rest: spot,
