@@ -27,8 +27,8 @@ abbrev pub Stands : {S : Type 0} → List (Vertex S) → Spot → Type 0
 Stands vs spot = Good vs spot.list × (spot.before < length (ordered (codes vs spot.list)))
 
 -- there is such a code on a sound shelf, and the lists up to its own are tallied
-abbrev pub Walked : {S : Type 0} → (S → S → Bool) → List (Vertex S) → Spot → List Place → Type 0
-Walked before vs spot work = Sound before vs × Tallied vs (spot.list + 1) work × Stands vs spot
+abbrev pub Walkable : {S : Type 0} → (S → S → Bool) → List (Vertex S) → Spot → List Place → Type 0
+Walkable before vs spot work = Sound before vs × Tallied vs (spot.list + 1) work × Stands vs spot
 
 -- that code
 abbrev pub code_at : {S : Type 0} → List (Vertex S) → Spot → Option (List S)

@@ -7,7 +7,7 @@ ghost use Rattle.ledger.specs.Ledger.{codes};
 ghost use Rattle.ledger.specs.Ordered.{ordered};
 ghost use Rattle.counting.specs.Tallies.{Counted};
 ghost use Rattle.counting.specs.Picks.{Picked, PickKeeps, Short, Writes};
-ghost use Rattle.counting.specs.Courses.{Advances, AtMost, Falls, Keeps, Leads, LeftOf, Lower, Walked};
+ghost use Rattle.counting.specs.Courses.{Advances, AtMost, Falls, Keeps, Leads, LeftOf, Lower, Walkable};
 
 use crate::tallying::{tally_at, tally_up_to};
 use memory::reading::read_vertex;
@@ -52,10 +52,11 @@ fn left_of(before: u64, these: Option<u64>) -> Option<u64>
     before.checked_sub(these?)
 }
 
-// What this code is.
+// What this code is. The shelf and the work space stay two: what holds of both holds on sound shelves alone, so no type
+// keeps it.
 fn turn_at<S: Symbol, B: Shelf<S>>(shelf: &B, spot: Spot, work: &[Place]) -> Turn<S>
     ensures below { Lower spot result }
-    ensures value { Walked S.Symbol.before (B.Shelf.vertices shelf.now) spot work.now → Leads (B.Shelf.vertices shelf.now) spot result }
+    ensures value { Walkable S.Symbol.before (B.Shelf.vertices shelf.now) spot work.now → Leads (B.Shelf.vertices shelf.now) spot result }
 {
     let Some((label, zero, one)) = read_vertex(shelf, spot.list) else {
         return Turn::Ends;
@@ -64,19 +65,19 @@ fn turn_at<S: Symbol, B: Shelf<S>>(shelf: &B, spot: Spot, work: &[Place]) -> Tur
     let Some(later) = spot.before.checked_sub(empty) else {
         return Turn::Ends;
     };
-    let Some(left) = left_of(later, tally_at(work, one).codes) else {
-        return Turn::Takes(
+    match left_of(later, tally_at(work, one).codes) {
+        Some(left) => Turn::Passes(Spot {
+            list: zero,
+            before: empty + left,
+        }),
+        None => Turn::Takes(
             label,
             Spot {
                 list: one,
                 before: later,
             },
-        );
-    };
-    Turn::Passes(Spot {
-        list: zero,
-        before: empty + left,
-    })
+        ),
+    }
 }
 
 // Makes a turn, and writes the label that it takes; nothing where the code ends.
@@ -90,14 +91,11 @@ fn advance<S: Symbol, B: Shelf<S>>(
     requires output { 64 ≤ length out.old }
     ensures below { Falls course result }
     ensures kept { Keeps out.old result out.new }
-    ensures value { Walked S.Symbol.before (B.Shelf.vertices shelf.now) course.rest work.now → Advances (B.Shelf.vertices shelf.now) course out.old result out.new }
+    ensures value { Walkable S.Symbol.before (B.Shelf.vertices shelf.now) course.rest work.now → Advances (B.Shelf.vertices shelf.now) course out.old result out.new }
 {
     match turn_at(shelf, course.rest, work) {
         Turn::Ends => None,
-        Turn::Passes(rest) => Some(Course {
-            rest,
-            length: course.length,
-        }),
+        Turn::Passes(rest) => Some(Course { rest, ..course }),
         Turn::Takes(label, rest) => {
             if course.length >= LONGEST_CODE {
                 return None;
@@ -115,7 +113,7 @@ fn advance<S: Symbol, B: Shelf<S>>(
 fn write_code<S: Symbol, B: Shelf<S>>(shelf: &B, spot: Spot, out: &mut [S], work: &[Place]) -> usize
     requires output { 64 ≤ length out.old }
     ensures kept { (result ≤ 64) × (drop result out.new ≡ drop result out.old) }
-    ensures value { Walked S.Symbol.before (B.Shelf.vertices shelf.now) spot work.now → Short (codes (B.Shelf.vertices shelf.now) spot.list) → Writes (ordered (codes (B.Shelf.vertices shelf.now) spot.list)) spot.before out.old result out.new }
+    ensures value { Walkable S.Symbol.before (B.Shelf.vertices shelf.now) spot work.now → Short (codes (B.Shelf.vertices shelf.now) spot.list) → Writes (ordered (codes (B.Shelf.vertices shelf.now) spot.list)) spot.before out.old result out.new }
 {
     let mut course = Course {
         rest: spot,
