@@ -10,7 +10,7 @@ use Rattle.ledger.specs.Laid.{Laid}
 use Rattle.ledger.specs.Operations.{takes, make}
 use Rattle.ledger.proofs.Drawn.{sound_front}
 use Rattle.ledger.proofs.Laying.{laid_known}
-use Rattle.ledger.proofs.Reading.{none_some, some_same}
+use Rattle.ledger.proofs.Reading.{some_same}
 use Rattle.memory.specs.declared.recall.Question.{Question}
 use Rattle.memory.specs.declared.shelf.Full.{Full}
 use Rattle.memory.specs.Tables.{Told}
@@ -121,9 +121,6 @@ module _ {S : Type 0} (before : S → S → Bool) (order : Order before) (old : 
 
     same_apart : apart before vs f.pair ≡ apart before old f.pair
     same_apart = old_apart R.sound R.more R.extends f.pair over.0.first over.0.second
-
-    pub turn_lost : apart before vs f.pair ≡ None → ⊥
-    turn_lost e = none_some (sym same_apart ∙ e) over.0.is
 
     module _ (s : Split S) (e : apart before vs f.pair ≡ Some s) where
       part_is : over.0.part ≡ s

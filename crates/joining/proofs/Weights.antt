@@ -5,7 +5,6 @@ use Rattle.joining.specs.Pairs.{sum}
 use Rattle.joining.specs.Walks.{Fits, weigh, stage_cost, frame_cost, Nearer}
 use Rattle.joining.specs.declared.pairs.Pair.{Pair}
 use Rattle.joining.specs.declared.frames.Frame.{Frame}
-use Rattle.joining.specs.declared.frames.Stage.{Stage}
 use Rattle.joining.specs.declared.frames.Stage.TheVariants.{Outer, Inner}
 use Rattle.joining.specs.declared.turns.Turn.TheVariants.{Meet, Answer}
 
@@ -38,10 +37,6 @@ weigh_step a (suc n) h =
     let e = ap weigh q in
     omega arith
 
-frame_some : (n : ℕ) (stage : Stage) → 1 ≤ stage_cost n stage
-frame_some n Outer = omega arith
-frame_some n (Inner low) = omega arith
-
 module _ (room : ℕ) (frames : List Frame) where
   module _ (pair : Pair) (fits : Fits room frames (Meet pair)) where
     -- a number is known for the pair
@@ -72,10 +67,3 @@ module _ (room : ℕ) (frames : List Frame) where
         subst⁻¹ (λ (k : ℕ). Nearer room (f ∷ frames) (Answer n) k after (Meet inner)) same
         (subst⁻¹ (λ (fs : List Frame). Nearer room (f ∷ frames) (Answer n) room fs (Meet inner)) is
         (record { same = refl; fits = record { reaches = omega arith; deep = (d, fits.deep.1) }; falls = omega arith }))
-
-    -- the top frame goes
-    pub nearer_pop : (m : ℕ) → Nearer room (f ∷ frames) (Answer n) room frames (Answer m)
-    nearer_pop m =
-        let r = fits.reaches in
-        let c = frame_some (sum f.pair) f.stage in
-        record { same = refl; fits = record { reaches = omega arith; deep = fits.deep.1 }; falls = omega arith }

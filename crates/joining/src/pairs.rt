@@ -36,6 +36,7 @@ pub fn question(rule: Rule, pair: Pair) -> Question
     }
 }
 
+// List `n` where it is kept, and else list 0. An `if` says it more plainly than `then_some` and `unwrap_or`.
 fn kept(keep: bool, n: u32) -> u32
     ensures { result ≡ (if keep then n else 0) }
 {

@@ -33,6 +33,7 @@ pub struct Walk<'s, 'r, 'w, S, B, R> {
     pub recall: &'r mut R,
     pub rule: Rule,
     pub stack: Stack<'w>,
+    // what the shelf's labels are
     pub labels: PhantomData<S>,
 }
 

@@ -5,7 +5,6 @@ use Rattle.ledger.specs.declared.Vertex.{Vertex}
 use Rattle.ledger.specs.Lists.{Codes, none, blank, begun, SomeCode, Proper}
 use Rattle.ledger.specs.Ledger.{codes}
 use Rattle.ledger.specs.Operations.{has, takes, make, join, single}
-use Rattle.ledger.proofs.Reading.{true_false}
 use Rattle.ledger.proofs.Rows.{both_ways}
 use Rattle.ledger.proofs.Sets.{proper_same}
 use Rattle.ledger.proofs.Joins.{join_right}
@@ -81,8 +80,8 @@ module _ {S : Type 0} (before : S → S → Bool) (order : Order before) where
 
     itself : (change : Change) (b : Bool) → as_it_is change b ≡ true → takes (rule change) b true ≡ b
     itself Add true e = refl
-    itself Add false e = absurd (true_false e refl)
-    itself Remove true e = absurd (true_false e refl)
+    itself Add false e = cc
+    itself Remove true e = cc
     itself Remove false e = refl
 
     has_same : (d : List S) → has before (changed before change t c) d ≡ has before t d

@@ -1,7 +1,6 @@
 -- The way back up the frames.
-use Rattle.std.proofs.Common.{◌≡◌, ℕ, ◌<◌, ◌≤◌, Bool, true, false, ◌⊎◌, List, [], ◌∷◌, length, take, Ok, Err, Result, is_err, ap, ◌∙◌, subst, inl, inr, arith, length-append}
+use Rattle.std.proofs.Common.{◌≡◌, ℕ, ◌<◌, ◌≤◌, Bool, true, false, ◌⊎◌, List, [], ◌∷◌, length, Ok, Err, Result, is_err, ap, ◌∙◌, subst, inl, inr, arith, length-append}
 use mathlib.Core.Path.{subst⁻¹}
-use Rattle.std.proofs.lemmas.List.{take-append-le, take_all}
 use Rattle.symbols.specs.Order.{Order}
 use Rattle.ledger.specs.declared.Vertex.{Vertex}
 use Rattle.ledger.specs.Lists.{Codes, none, blank, begun, Proper}
@@ -104,6 +103,3 @@ module _ {S : Type 0} (before : S → S → Bool) (order : Order before) where
       subst⁻¹ (λ t. Lays {F = Full} before capacity vs t (Ok n) vs)
       (unchanged before order change (codes vs n) c (codes_proper before order vs s n g) (subst (λ b. as_it_is change b ≡ true) e settled))
       (lays_ok vs (codes vs n) vs n capacity (laid_known before order vs s n g) h)
-
-pub cut_back : {S : Type 0} (vs ws : List (Vertex S)) (start : ℕ) → start ≡ length vs → Begins vs ws → take start ws ≡ vs
-cut_back vs ws start e b = ap (take start) b.1 ∙ take-append-le start vs b.0 (omega arith) ∙ take_all start vs (omega arith)

@@ -1,7 +1,6 @@
 use Rattle.std.proofs.Common.{◌∷◌, ap, ◌∙◌, arith, length-set}
-use Rattle.memory.specs.declared.work.Place.{Place}
-use Rattle.memory.specs.Stacked.{Stacked, stacked}
-use Rattle.memory.proofs.Stacking.{stacked_length, pushed, there_is_room}
+use Rattle.memory.specs.Stacked.{Stacked}
+use Rattle.memory.proofs.Stacking.{pushed, there_is_room}
 use Rattle.memory.proofs.stack.Stack.push.Goals as goal
 
 pub bounds-self-inside-self-inside : goal.bounds-self-inside-self-inside
