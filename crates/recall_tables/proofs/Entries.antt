@@ -1,5 +1,5 @@
 -- An entry, part by part: the slot that it stands in, and the note of the turn in which it came.
-use Rattle.std.proofs.Common.{◌≡◌, ℕ, ◌*◌, ◌/◌, ◌<◌, ◌≤◌, true, false, ◌&&◌, eqb, ltb, ◌⊎◌, List, length, get_or, Some, None, Option, sym, refl, ap, ◌∙◌, inl, inr, mul_comm, arith}
+use Rattle.std.proofs.Common.{◌≡◌, ℕ, ◌*◌, ◌/◌, ◌<◌, ◌≤◌, true, ◌&&◌, eqb, ltb, ◌⊎◌, List, length, get_or, Some, None, sym, refl, ap, ◌∙◌, inl, inr, mul_comm, arith}
 use native.Mathlib.Nat.{mul-lt-mul_of_pos_left}
 use Rattle.std.specs.List.{slice_get}
 use Rattle.std.proofs.lemmas.Nat.{div_below}
@@ -15,9 +15,6 @@ pub part_below : (s count : ℕ) → s < 4294967296 → 0 < count → s * count 
 part_below s count h p =
     div_below (s * count) 4294967296 count (omega arith)
     (let l : count * s < count * 4294967296 = mul-lt-mul_of_pos_left h p in omega (arith, mul_comm s count))
-
-none_some : {n : ℕ} → None ≡ Some n → ⊥
-none_some e = let z : ◌≡◌ {A = ℕ} 0 1 = cc in omega arith
 
 abbrev pub bare : Slot
 bare = record { question = record { rule = 0; first = 0; second = 0 }; answer = 0; turn = 0; filled = 0 }
@@ -66,31 +63,11 @@ holds_parts xs turns k q n here e = by (cases_lt k (length xs))
     by (inl h) =
         let p = entry_parts xs turns k (get_or xs k bare) q n (ap (λ o. entry_in xs turns k o q) (sym (slice_get-get_or xs k bare h)) ∙ f) in
         record { inside = h; asked = p.0; answered = p.2; filled = filled_parts xs turns (get_or xs k bare).turn k p.1 }
-    by (inr h) = absurd (none_some (ap (λ o. entry_in xs turns k o q) (sym (slice_get_past xs k h)) ∙ f))
+    by (inr h) = let none : None ≡ Some n = ap (λ o. entry_in xs turns k o q) (sym (slice_get_past xs k h)) ∙ f in absurd (cc)
 
 -- what slot k answers
 pub held_slot : (xs : List Slot) (turns k : ℕ) (q : Question) → k ≡ slot_of (slot_count xs) q → k < length xs → held xs turns q ≡ entry_in xs turns k (Some (get_or xs k bare)) q
 held_slot xs turns k q here h = ap (λ j. entry_in xs turns j (slice_get xs j) q) (sym here) ∙ ap (λ o. entry_in xs turns k o q) (slice_get-get_or xs k bare h)
-
-pub held_past : (xs : List Slot) (turns : ℕ) (q : Question) → length xs ≡ 0 → None ≡ held xs turns q
-held_past xs turns q h =
-    let k = slot_of (slot_count xs) q in
-    ap (λ o. entry_in xs turns k o q) (sym (slice_get_past xs k (omega arith)))
-
--- another question, or no turn so far
-pub entry_other : (xs : List Slot) (turns k : ℕ) (s : Slot) (q : Question) → (s.question ≡ q → ⊥) → None ≡ entry_in xs turns k (Some s) q
-entry_other xs turns k s q apart = by (entry_in xs turns k (Some s) q) refl
-  where
-    by : (o : Option ℕ) → entry_in xs turns k (Some s) q ≡ o → None ≡ o
-    by None e = refl
-    by (Some n) e = absurd (apart (entry_parts xs turns k s q n e).0)
-
-pub entry_empty : (xs : List Slot) (turns k : ℕ) (s : Slot) (q : Question) → filled_in xs turns s.turn k ≡ false → None ≡ entry_in xs turns k (Some s) q
-entry_empty xs turns k s q empty = by (entry_in xs turns k (Some s) q) refl
-  where
-    by : (o : Option ℕ) → entry_in xs turns k (Some s) q ≡ o → None ≡ o
-    by None e = refl
-    by (Some n) e = absurd (false≢true (sym empty ∙ (entry_parts xs turns k s q n e).1))
 
 pub entry_own : (xs : List Slot) (turns k : ℕ) (s : Slot) (q : Question) → s.question ≡ q → filled_in xs turns s.turn k ≡ true → Some s.answer ≡ entry_in xs turns k (Some s) q
 entry_own xs turns k s q asked full =
