@@ -1,5 +1,5 @@
 -- Buckets of records: what a walk down a bucket has seen, and one record more.
-use Rattle.std.proofs.Common.{◌≡◌, ℕ, zero, suc, ◌+◌, ◌-◌, ◌<◌, ◌≤◌, min, eqb, ◌⊎◌, List, length, get_or, Some, sym, refl, ap, ◌∙◌, inl, inr, arith}
+use Rattle.std.proofs.Common.{◌≡◌, ℕ, zero, suc, ◌+◌, ◌<◌, ◌≤◌, min, eqb, ◌⊎◌, List, length, get_or, Some, sym, refl, ap, ◌∙◌, inl, inr, arith}
 use mathlib.Core.Path.{subst⁻¹}
 use Rattle.std.specs.List.{slice_get}
 use Rattle.std.proofs.lemmas.Bool.{cases_eq, cases_lt, eq-eqb, ne_eqb, cond-true, cond-false}
@@ -44,18 +44,18 @@ module _ (f : ℕ → ℕ) where
       by (inr p) (inr q) below = let r = latest_past k b p in below j (omega arith) (omega arith) e
 
   -- the last is in the bucket
-  latest_hits : (k b : ℕ) → 0 < latest f k b → f (latest f k b - 1) ≡ b
-  latest_hits zero b h = absurd (let e = latest_none b in omega arith)
-  latest_hits (suc k) b h = by (cases_eq (f k) b) (latest_hits k b)
+  latest_hits : (k b j : ℕ) → latest f k b ≡ suc j → f j ≡ b
+  latest_hits zero b j h = absurd (let e = latest_none b in omega arith)
+  latest_hits (suc k) b j h = by (cases_eq (f k) b) (latest_hits k b j)
     where
-      by : (f k ≡ b) ⊎ (f k ≡ b → ⊥) → (0 < latest f k b → f (latest f k b - 1) ≡ b) → f (latest f (suc k) b - 1) ≡ b
-      by (inl p) below = let q : latest f (suc k) b - 1 ≡ k = (let r = latest_here k b p in omega arith) in ap f q ∙ p
-      by (inr p) below = let r = latest_past k b p in ap (λ m. f (m - 1)) r ∙ below (omega arith)
+      by : (f k ≡ b) ⊎ (f k ≡ b → ⊥) → (latest f k b ≡ suc j → f j ≡ b) → f j ≡ b
+      by (inl p) below = let q : j ≡ k = (let r = latest_here k b p in omega arith) in ap f q ∙ p
+      by (inr p) below = below (sym (latest_past k b p) ∙ h)
 
 module _ {S : Type 0} (scatter : S → ℕ) (ds : List (Vertex S)) (count k : ℕ) (vertex : Vertex S) where
   -- a walk down the vertex's bucket: it is none of the records from `link` on
   pub record Searching (link : ℕ) : Type 0 where
-    pub top : 0 < link → bucket_at scatter count ds (link - 1) ≡ bucket scatter count vertex
+    pub top : (j : ℕ) → link ≡ suc j → bucket_at scatter count ds j ≡ bucket scatter count vertex
     pub none_yet : (j : ℕ) → link ≤ j → j < k → slice_get ds j ≡ Some vertex → ⊥
 
   its_bucket : (j : ℕ) → slice_get ds j ≡ Some vertex → bucket_at scatter count ds j ≡ bucket scatter count vertex
@@ -68,29 +68,22 @@ module _ {S : Type 0} (scatter : S → ℕ) (ds : List (Vertex S)) (count k : �
       let low = latest_low f k b in
       let l : link ≡ latest f k b = omega arith in
       record {
-        top = λ s. ap (λ m. f (m - 1)) l ∙ latest_hits f k b (omega arith) ∙ e;
+        top = λ j s. latest_hits f k b j (sym l ∙ s) ∙ e;
         none_yet = λ j m n r. latest_skips f k b j (omega arith) n (its_bucket j r ∙ sym e);
       }
 
-  pub search_next : (work : List Place) (link next after : ℕ) → Table scatter ds count k work → Searching link → 0 < link → link ≤ k → (slice_get ds (link - 1) ≡ Some vertex → ⊥) →
-      next ≡ (get_or work (link - 1) vacant).other → after ≡ min next (link - 1) → Searching after
-  search_next work link next after T s some low other p q =
+  pub search_next : (work : List Place) (link i next after : ℕ) → link ≡ suc i → Table scatter ds count k work → Searching link → link ≤ k → (slice_get ds i ≡ Some vertex → ⊥) → next ≡ (get_or work i vacant).other → after ≡ min next i → Searching after
+  search_next work link i next after here T s low other p q =
       let f = bucket_at scatter count ds in
       let b = bucket scatter count vertex in
-      let is : next ≡ latest f (link - 1) b = p ∙ T.nexts (link - 1) (omega arith) ∙ ap (latest f (link - 1)) (s.top some) in
-      let l : latest f (link - 1) b ≤ link - 1 = latest_low f (link - 1) b in
-      let a : after ≡ latest f (link - 1) b = omega arith in
-      record {
-        top = λ h. ap (λ m. f (m - 1)) a ∙ latest_hits f (link - 1) b (omega arith);
-        none_yet = λ j m n r. by a j m n r (cases_eq j (link - 1)) (cases_up j);
-      }
+      let is : next ≡ latest f i b = p ∙ T.nexts i (omega arith) ∙ ap (latest f i) (s.top i here) in
+      let l : latest f i b ≤ i = latest_low f i b in
+      let a : after ≡ latest f i b = omega arith in
+      record { top = λ j h. latest_hits f i b j (sym a ∙ h); none_yet = λ j m n r. by a j m n r (cases_eq j i) (cases_lt j i) }
     where
-      cases_up : (j : ℕ) → (j < link - 1) ⊎ (link - 1 ≤ j)
-      cases_up j = cases_lt j (link - 1)
-
-      by : after ≡ latest (bucket_at scatter count ds) (link - 1) (bucket scatter count vertex) → (j : ℕ) → after ≤ j → j < k → slice_get ds j ≡ Some vertex → (j ≡ link - 1) ⊎ (j ≡ link - 1 → ⊥) → (j < link - 1) ⊎ (link - 1 ≤ j) → ⊥
+      by : after ≡ latest (bucket_at scatter count ds) i (bucket scatter count vertex) → (j : ℕ) → after ≤ j → j < k → slice_get ds j ≡ Some vertex → (j ≡ i) ⊎ (j ≡ i → ⊥) → (j < i) ⊎ (i ≤ j) → ⊥
       by a j m n r (inl e) c = other (ap (slice_get ds) (sym e) ∙ r)
-      by a j m n r (inr e) (inl c) = latest_skips (bucket_at scatter count ds) (link - 1) (bucket scatter count vertex) j (omega arith) c (its_bucket j r)
+      by a j m n r (inr e) (inl c) = latest_skips (bucket_at scatter count ds) i (bucket scatter count vertex) j (omega arith) c (its_bucket j r)
       by a j m n r (inr e) (inr c) = s.none_yet j (omega arith) n r
 
 module _ {S : Type 0} (scatter : S → ℕ) (ds : List (Vertex S)) (count : ℕ) where

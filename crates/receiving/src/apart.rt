@@ -26,7 +26,7 @@ fn put_in_front(work: &mut [Place], b: usize, k: u32)
     work[b].list = k + 1;
 }
 
-impl<'a, S: WireSymbol> Records<'a, S> {
+impl<S: WireSymbol> Records<'_, S> {
     // Whether a vertex is one of the first k records, by a walk down its bucket.
     fn seen_before(&self, work: &[Place], k: u32, vertex: Vertex<S>) -> bool
         requires room { length self.now ≤ length work.now }
@@ -34,8 +34,7 @@ impl<'a, S: WireSymbol> Records<'a, S> {
         ensures { Table S.Symbol.scatter self.now (length self.now) k work.now → (result ≡ true) ↔ ((j : ℕ) × (j < k) × (slice_get self.now j ≡ Some vertex)) }
     {
         let mut link = work[bucket(vertex, self.count() as usize)].list.min(k);
-        while link > 0 {
-            let j = link - 1;
+        while let Some(j) = link.checked_sub(1) {
             if same_vertex(self.record(j), vertex) {
                 return true;
             }
@@ -51,6 +50,7 @@ impl<'a, S: WireSymbol> Records<'a, S> {
     {
         let count = self.count();
         work[..count as usize].fill(Place::default());
+        // By number: the table is made of numbers.
         for k in 0..count {
             let vertex = self.record(k);
             if self.seen_before(work, k, vertex) {

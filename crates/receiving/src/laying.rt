@@ -31,7 +31,7 @@ fn lay_vertex<S: Symbol, B: Shelf<S>>(
     shelf.find_or_append(vertex.label, zero, one)
 }
 
-impl<'a, S: WireSymbol> Records<'a, S> {
+impl<S: WireSymbol> Records<'_, S> {
     // Lays the records down, and answers the root's number.
     fn lay_records<B: Shelf<S>>(
         &self,
@@ -45,12 +45,10 @@ impl<'a, S: WireSymbol> Records<'a, S> {
         ensures ready { B.Shelf.ready shelf.old → B.Shelf.ready shelf.new }
         ensures size { B.Shelf.capacity shelf.new ≡ B.Shelf.capacity shelf.old }
     {
+        // By number: the links of each lead to the places of lower ones.
         for k in 0..self.count() {
             let number = lay_vertex(shelf, work, self.record(k))?;
-            work[k as usize] = Place {
-                number,
-                ..Place::default()
-            };
+            work[k as usize].number = number;
         }
         Ok(new_link(work, root))
     }

@@ -22,7 +22,7 @@ fn length_at(work: &[Place], n: u32) -> u32
     }
 }
 
-impl<'a, S: WireSymbol> Records<'a, S> {
+impl<S: WireSymbol> Records<'_, S> {
     // How long the codes of record k are, from those of the records before it.
     fn measure(&self, work: &[Place], k: u32) -> u32
         requires index { k < length self.now }
@@ -44,10 +44,7 @@ impl<'a, S: WireSymbol> Records<'a, S> {
         // By number: each is measured from the places of lower ones.
         for k in 0..self.count() {
             let number = self.measure(work, k);
-            work[k as usize] = Place {
-                number,
-                ..Place::default()
-            };
+            work[k as usize].number = number;
         }
         length_at(work, root) > LONGEST
     }

@@ -25,7 +25,7 @@ mod lengths;
 mod records;
 mod visiting;
 
-impl<'a, S: WireSymbol> Records<'a, S> {
+impl<S: WireSymbol> Records<'_, S> {
     // Whether the records are those that writing the root's list gives: the root is one of them or a terminal, they stand
     // in the order of laying down, and no two are equal.
     fn as_written(&self, root: u32, work: &mut [Place]) -> bool

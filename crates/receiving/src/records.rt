@@ -85,10 +85,7 @@ impl<'a, S: WireSymbol> Records<'a, S> {
         ensures below { (result.zero < k + 2) × (result.one < k + 2) }
         ensures formed { Formed S.Symbol.before self.now }
     {
-        let Ok(vertex) = read_at(self.bytes, k) else {
-            unreachable!()
-        };
-        vertex
+        read_at(self.bytes, k).unwrap()
     }
 
     // The vertex with a number: nothing for a terminal, and past the records.

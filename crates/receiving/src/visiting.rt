@@ -47,7 +47,7 @@ impl From<Task> for Place {
     }
 }
 
-impl<'a, S: WireSymbol> Records<'a, S> {
+impl<S: WireSymbol> Records<'_, S> {
     // Does a task after so many vertices were passed, and answers how many were passed then; nothing, where the vertices
     // do not stand in order.
     fn do_task(&self, task: Task, passed: u32, stack: &mut Stack) -> Option<u32>
