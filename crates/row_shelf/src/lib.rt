@@ -33,6 +33,7 @@ impl<'a, S: Symbol> RowShelf<'a, S> {
         RowShelf { run, used: 0 }
     }
 
+    // The records that hold vertices.
     fn vertices(&self) -> &[Vertex<S>]
         ensures { result.now ≡ take self.now.used self.now.run.now }
     {

@@ -42,7 +42,8 @@ pub(crate) fn append<S: Symbol>(
 
 // Moves the marked vertices to the front, their links renumbered from the places, and says how many there are.
 pub(crate) fn keep<S: Symbol>(run: &mut [Vertex<S>], used: u32, marks: &[Place]) -> u32
-    requires { (used ≤ row_capacity run.old) × (length marks.now ≡ used) }
+    requires used { used ≤ row_capacity run.old }
+    requires marks { length marks.now ≡ used }
     ensures few { result ≤ used }
     ensures vertices { take result run.new ≡ map (noted_vertex marks.now) (keep (marks_in marks.now) (take used run.old)) }
 {
