@@ -252,6 +252,7 @@ impl Symbol for Letter {
 
     ghost ordered = { by_code byte_of one_byte };
 
+    // By bytes, which the law of the order goes by.
     fn before(self, other: Letter) -> bool {
         u8::from(self) < u8::from(other)
     }

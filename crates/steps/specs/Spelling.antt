@@ -125,16 +125,16 @@ steps_own [] (Numbered s) code fine e =
     subst (λ c. Own (Numbered s) [] c) same one
 steps_own (b ∷ bs) stage code fine e = own_on bs (steps_own bs) stage b (turned stage b) code fine refl e
 
-ok_own : (o : Option (List Step)) (code : List Step) → ok_or {E = TextFault} o Unreadable ≡ Ok code → o ≡ Some code
-ok_own None code e = absurd cc
-ok_own (Some c) code e = cc
+pub ok_own : {A E : Type 0} (o : Option A) (e : E) (x : A) → ok_or o e ≡ Ok x → o ≡ Some x
+ok_own None e x h = absurd cc
+ok_own (Some y) e x h = cc
 
 spelled_own : (t : List ℕ) (code : List Step) → spelled t ≡ Ok code → (text_of code ≡ t) × AllByRecursion Short code
 spelled_own [] code e =
     let same : [] ≡ code = cc in
     let P : List Step → Type 0 = λ c. (text_of c ≡ []) × AllByRecursion Short c in
     subst P same (refl, tt)
-spelled_own (b ∷ bs) code e = let o = steps_own (b ∷ bs) Start code tt (ok_own (steps_from Start (b ∷ bs)) code e) in (o.0, o.1)
+spelled_own (b ∷ bs) code e = let o = steps_own (b ∷ bs) Start code tt (ok_own (steps_from Start (b ∷ bs)) Unreadable code e) in (o.0, o.1)
 
 -- From a code to its text and back.
 

@@ -79,7 +79,7 @@ fn read_in_number(step: Step, b: u8) -> Option<Turn>
     })
 }
 
-// Keeps a step that has ended, if one has, and answers how many have.
+// Keeps a step that has ended, if one has, and answers how many have: each of the two cases is said whole.
 fn keep(done: Option<Step>, count: usize, out: &mut [Step]) -> usize
     requires { count + 1 < 2 ^ 64 }
     ensures { Kept done count out.old result out.new }
@@ -105,9 +105,7 @@ pub fn read_steps(from: &[u8], out: &mut [Step]) -> Result<usize, TextFault>
     let mut stage = Stage::Start;
     let mut count: usize = 0;
     for b in from {
-        let Some(turn) = read_byte(stage, *b) else {
-            return Err(TextFault::Unreadable);
-        };
+        let turn = read_byte(stage, *b).ok_or(TextFault::Unreadable)?;
         count = keep(turn.done, count, out);
         stage = turn.next;
     }

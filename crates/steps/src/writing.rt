@@ -61,9 +61,7 @@ pub fn write_steps(code: &[Step], out: &mut [u8]) -> Result<usize, ShortOutput>
     let Some((first, rest)) = code.split_first() else {
         return Ok(0);
     };
-    if room_after(*first, rest, out.len()).is_none() {
-        return Err(ShortOutput);
-    }
+    room_after(*first, rest, out.len()).ok_or(ShortOutput)?;
     let mut at = write_step(*first, out, 0);
     for step in rest {
         at = write_slashed(*step, out, at);

@@ -4,6 +4,7 @@ use Rattle.texts.proofs.Filling.{filled_more, begun_ok, begun_err}
 use Rattle.texts.specs.declared.TextFault.TheVariants.{Unreadable}
 use Rattle.steps.specs.Stages.{with_done, ended, steps_from, spelled}
 use Rattle.steps.specs.declared.reading.Stage.TheVariants.{Start}
+use Rattle.steps.specs.Spelling.{ok_own}
 use Rattle.steps.proofs.Turns.{onto, turn_more, turn_ends, ended_none, spelled_some, kept_long, kept_filled, kept_few}
 use Rattle.steps.proofs.reading.read_steps.Goals as goal
 
@@ -11,21 +12,22 @@ pub loop-b-preserved : goal.loop-b-preserved
 loop-b-preserved c =
     let from = c.args.from.now in
     let code = c.loop-b.invariant.0 in
-    let t = c.in-Some.turn in
+    let t = c.in_ok-turn.turn in
+    let turn = sym (ok_own c.read_byte.result Unreadable t (sym c.in_ok-turn.ensures.value)) ∙ c.read_byte.ensures in
     let r = c.keep-count.result in
     let new = c.keep-count.new.out in (
       code ++ with_done t.done [],
       kept_long t.done c.loop-b.count r c.loop-b.out new code c.keep-count.ensures c.loop-b.invariant.1,
-      kept_few c.loop-b.stage _ t c.loop-b.count r c.loop-b.b-index c.loop-b.out new c.in-Some.ensures c.keep-count.ensures c.loop-b.invariant.2,
-      turn_more (steps_from Start from) from c.loop-b.stage c.loop-b.b-index code t c.loop-b-test.true c.loop-b.invariant.3 c.in-Some.ensures,
+      kept_few c.loop-b.stage _ t c.loop-b.count r c.loop-b.b-index c.loop-b.out new turn c.keep-count.ensures c.loop-b.invariant.2,
+      turn_more (steps_from Start from) from c.loop-b.stage c.loop-b.b-index code t c.loop-b-test.true c.loop-b.invariant.3 turn,
       kept_filled t.done c.loop-b.count r c.loop-b.out new code c.args.out.now c.keep-count.ensures c.loop-b.invariant.1 c.loop-b.invariant.4,
     )
 
-pub returns-in_default-stage-clause-answer : goal.returns-in_default-stage-clause-answer
-returns-in_default-stage-clause-answer c =
+pub returns-in_default-clause-answer : goal.returns-in_default-clause-answer
+returns-in_default-clause-answer c =
     let from = c.args.from.now in
     let ends = turn_ends (steps_from Start from) from c.loop-b.stage c.loop-b.b-index c.loop-b.invariant.0 c.loop-b-test.false c.loop-b.invariant.3 in
-    let none = ends ∙ ap (onto c.loop-b.invariant.0) (ended_none c.loop-b.stage c.in_default-stage.not-Numbered) in
+    let none = ends ∙ ap (onto c.loop-b.invariant.0) (ended_none c.loop-b.stage c.in_default.not-Numbered) in
     begun_err (spelled from) Unreadable c.args.out.now c.loop-b.out (Err Unreadable) (spelled_some from None (sym c.is_empty.ensures ∙ c.if-is_empty.false) none) refl
 
 pub returns-clause-answer : goal.returns-clause-answer
