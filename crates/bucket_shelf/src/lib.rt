@@ -144,6 +144,7 @@ impl<'a, S: Symbol> Shelf<S> for BucketShelf<'a, S> {
         if n == 0 {
             self.heads.fill(0);
         } else {
+            // A reference of its own: both runs are lent in one call.
             let records = &mut *self.records;
             chain::unlink(records, self.heads, self.used, n);
         }
