@@ -2,11 +2,11 @@
 use Rattle.std.proofs.Common.{◌≡◌, ℕ, zero, suc, ◌+◌, ◌<◌, ◌≤◌, min, eqb, ◌⊎◌, List, length, get_or, Some, sym, refl, ap, ◌∙◌, inl, inr, arith}
 use mathlib.Core.Path.{subst⁻¹}
 use Rattle.std.specs.List.{slice_get}
-use Rattle.std.proofs.lemmas.Bool.{cases_eq, cases_lt, eq-eqb, ne_eqb, cond-true, cond-false}
+use Rattle.std.proofs.lemmas.Bool.{cases_eq, eq-eqb, ne_eqb, cond-true, cond-false}
 use Rattle.ledger.specs.declared.Vertex.{Vertex}
 use Rattle.ledger.specs.Diagrams.{Different}
 use Rattle.ledger.proofs.Canon.{vertex_good}
-use Rattle.ledger.proofs.Reading.{none_some, some_same}
+use Rattle.ledger.proofs.Reading.{none_some}
 use Rattle.memory.specs.declared.work.Place.{Place}
 use Rattle.memory.specs.Buckets.{bucket}
 use Rattle.receiving.specs.Tables.{latest, bucket_in, bucket_at, Table, FirstApart, PutInFront}
@@ -27,30 +27,17 @@ module _ (f : ℕ → ℕ) where
 
   latest_low : (k b : ℕ) → latest f k b ≤ k
   latest_low zero b = let e = latest_none b in omega arith
-  latest_low (suc k) b = by (cases_eq (f k) b) (latest_low k b)
-    where
-      by : (f k ≡ b) ⊎ (f k ≡ b → ⊥) → latest f k b ≤ k → latest f (suc k) b ≤ suc k
-      by (inl e) h = let p = latest_here k b e in omega arith
-      by (inr e) h = let p = latest_past k b e in omega arith
+  latest_low (suc k) b = let h = latest_low k b in grind (arith, latest_here, latest_past)
 
   -- none from the last on
   latest_skips : (k b j : ℕ) → latest f k b ≤ j → j < k → f j ≡ b → ⊥
   latest_skips zero b j l h e = absurd (omega arith)
-  latest_skips (suc k) b j l h e = by (cases_eq (f k) b) (cases_eq j k) (latest_skips k b)
-    where
-      by : (f k ≡ b) ⊎ (f k ≡ b → ⊥) → (j ≡ k) ⊎ (j ≡ k → ⊥) → ((j : ℕ) → latest f k b ≤ j → j < k → f j ≡ b → ⊥) → ⊥
-      by (inl p) q below = let r = latest_here k b p in omega arith
-      by (inr p) (inl q) below = p (ap f (sym q) ∙ e)
-      by (inr p) (inr q) below = let r = latest_past k b p in below j (omega arith) (omega arith) e
+  latest_skips (suc k) b j l h e = let below = latest_skips k b j in grind (arith, latest_here, latest_past)
 
   -- the last is in the bucket
   latest_hits : (k b j : ℕ) → latest f k b ≡ suc j → f j ≡ b
   latest_hits zero b j h = absurd (let e = latest_none b in omega arith)
-  latest_hits (suc k) b j h = by (cases_eq (f k) b) (latest_hits k b j)
-    where
-      by : (f k ≡ b) ⊎ (f k ≡ b → ⊥) → (latest f k b ≡ suc j → f j ≡ b) → f j ≡ b
-      by (inl p) below = let q : j ≡ k = (let r = latest_here k b p in omega arith) in ap f q ∙ p
-      by (inr p) below = below (sym (latest_past k b p) ∙ h)
+  latest_hits (suc k) b j h = let below = latest_hits k b j in grind (arith, latest_here, latest_past)
 
 module _ {S : Type 0} (scatter : S → ℕ) (ds : List (Vertex S)) (count k : ℕ) (vertex : Vertex S) where
   -- a walk down the vertex's bucket: it is none of the records from `link` on
@@ -79,12 +66,10 @@ module _ {S : Type 0} (scatter : S → ℕ) (ds : List (Vertex S)) (count k : �
       let is : next ≡ latest f i b = p ∙ T.nexts i (omega arith) ∙ ap (latest f i) (s.top i here) in
       let l : latest f i b ≤ i = latest_low f i b in
       let a : after ≡ latest f i b = omega arith in
-      record { top = λ j h. latest_hits f i b j (sym a ∙ h); none_yet = λ j m n r. by a j m n r (cases_eq j i) (cases_lt j i) }
-    where
-      by : after ≡ latest (bucket_at scatter count ds) i (bucket scatter count vertex) → (j : ℕ) → after ≤ j → j < k → slice_get ds j ≡ Some vertex → (j ≡ i) ⊎ (j ≡ i → ⊥) → (j < i) ⊎ (i ≤ j) → ⊥
-      by a j m n r (inl e) c = other (ap (slice_get ds) (sym e) ∙ r)
-      by a j m n r (inr e) (inl c) = latest_skips (bucket_at scatter count ds) i (bucket scatter count vertex) j (omega arith) c (its_bucket j r)
-      by a j m n r (inr e) (inr c) = s.none_yet j (omega arith) n r
+      record {
+        top = λ j h. latest_hits f i b j (sym a ∙ h);
+        none_yet = λ j m n r. let skips = latest_skips f i b j in let its = its_bucket j r in let later = s.none_yet j in grind arith;
+      }
 
 module _ {S : Type 0} (scatter : S → ℕ) (ds : List (Vertex S)) (count : ℕ) where
   pub table_none : (work : List Place) → ((b : ℕ) → b < count → (get_or work b vacant).list ≡ 0) → Table scatter ds count 0 work
@@ -115,13 +100,7 @@ module _ {S : Type 0} (ds : List (Vertex S)) where
   apart_none i j v h l p q = absurd (omega arith)
 
   pub apart_more : (k : ℕ) (v : Vertex S) → slice_get ds k ≡ Some v → ((j : ℕ) × (j < k) × (slice_get ds j ≡ Some v) → ⊥) → FirstApart ds k → FirstApart ds (k + 1)
-  apart_more k v at new below i j w h l p q = by (cases_eq i k) (cases_eq j k)
-    where
-      by : (i ≡ k) ⊎ (i ≡ k → ⊥) → (j ≡ k) ⊎ (j ≡ k → ⊥) → i ≡ j
-      by (inl a) (inl b) = a ∙ sym b
-      by (inl a) (inr b) = let is : w ≡ v = some_same (ap (slice_get ds) (sym a) ∙ p) at in absurd (new (j, omega arith, q ∙ ap Some is))
-      by (inr a) (inl b) = let is : w ≡ v = some_same (ap (slice_get ds) (sym b) ∙ q) at in absurd (new (i, omega arith, p ∙ ap Some is))
-      by (inr a) (inr b) = below i j w (omega arith) (omega arith) p q
+  apart_more k v at new below i j w h l p q = grind arith
 
   pub different_all : (k : ℕ) → length ds ≤ k → FirstApart ds k → Different ds
   different_all k h below zero n v p q = absurd (none_some refl p)

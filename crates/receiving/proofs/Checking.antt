@@ -1,5 +1,5 @@
 -- Records that are read one after another, and what they are then.
-use Rattle.std.proofs.Common.{◌≡◌, ℕ, zero, suc, ◌+◌, ◌-◌, ◌*◌, ◌<◌, ◌≤◌, Bool, true, false, cond, ◌||◌, eqb, leb, ◌≢◌, ◌⊎◌, List, [], ◌∷◌, ◌++◌, length, get_or, take, drop, Some, None, Ok, Err, Result, sym, refl, ap, ◌∙◌, subst, inl, inr, mul-le-mul_right, suc-mul, zero-mul, arith, take-take, drop-drop}
+use Rattle.std.proofs.Common.{◌≡◌, ℕ, suc, ◌+◌, ◌-◌, ◌*◌, ◌<◌, ◌≤◌, Bool, true, false, cond, ◌||◌, eqb, leb, ◌≢◌, ◌⊎◌, List, [], ◌∷◌, ◌++◌, length, get_or, take, drop, Some, None, Ok, Err, Result, sym, refl, ap, ◌∙◌, subst, inl, inr, mul-le-mul_right, suc-mul, zero-mul, arith, take-take, drop-drop}
 use mathlib.Core.Path.{subst⁻¹}
 use Rattle.std.specs.List.{slice_get}
 use Rattle.std.specs.Result.{MatchResult, IsErrAnd}
@@ -14,6 +14,8 @@ use Rattle.ledger.specs.Diagrams.{look, Formed, Good}
 use Rattle.ledger.proofs.Canon.{vertex_good}
 use Rattle.ledger.proofs.Drawn.{look_cases}
 use Rattle.ledger.proofs.Ends.{length_snoc, nth_cases}
+use Rattle.ledger.proofs.Gathering.{sound_empty}
+use Rattle.ledger.proofs.Reading.{none_some}
 use Rattle.wire.specs.Heads.{word}
 use Rattle.wire.specs.Records.{linked, record_of, comes_before, checked, record_in, onward, records_in}
 use Rattle.wire.specs.declared.faults.RecordFault.{RecordFault}
@@ -126,18 +128,10 @@ module _ {S : Type 0} where
           record {
             vs = [];
             long = refl;
-            each = λ k v p. absurd (none_here k v p);
-            formed = record { zero_below = λ k v p. absurd (no_look k v p); one_below = λ k v p. absurd (no_look k v p); one_not_0 = λ k v p. absurd (no_look k v p); later = λ k v w p q. absurd (no_look k v p) };
+            each = λ k v p. absurd (none_some refl p);
+            formed = (sound_empty before order).formed;
             same = ap (λ m. records_in before t m [] bs) e ∙ ap (λ m. records_in before t (n - 0) [] (drop m bs)) (sym (zero-mul (t.width + 8)));
           }
-        where
-          none_here : (k : ℕ) (v : Vertex S) → slice_get [] k ≡ Some v → ⊥
-          none_here k v p = let z : ◌≡◌ {A = ℕ} 0 1 = cc in omega arith
-
-          no_look : (k : ℕ) (v : Vertex S) → look [] k ≡ Some v → ⊥
-          no_look zero v p = let z : ◌≡◌ {A = ℕ} 0 1 = cc in omega arith
-          no_look (suc zero) v p = let z : ◌≡◌ {A = ℕ} 0 1 = cc in omega arith
-          no_look (suc (suc k)) v p = none_here k v p
 
       labels_read : (vs : List (Vertex S)) → ((k : ℕ) (v : Vertex S) → slice_get vs k ≡ Some v → record_of t (k + 2) (record_at t.width bs k) ≡ Ok v) → Labels t bs vs
       labels_read vs each k v p =

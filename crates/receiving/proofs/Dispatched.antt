@@ -1,7 +1,7 @@
 -- The bytes of a dispatch whose head and records are right are those of its vertices and its root.
-use Rattle.std.proofs.Common.{◌≡◌, ℕ, suc, ◌+◌, ◌-◌, ◌*◌, ◌/◌, ◌%◌, ◌<◌, ◌≤◌, Bool, true, false, eqb, leb, ◌⊎◌, ◌↔◌, List, [], ◌∷◌, ◌++◌, length, get_or, take, drop, Some, Ok, Err, Result, sym, refl, ap, ◌∙◌, subst, ap₂, inl, inr, append_assoc, append-nil, suc-mul, mul-le-mul, zero-mul, arith, length-drop, take-append-drop, length-take, length-take-le, get_or-drop, get_or-take, drop-drop}
+use Rattle.std.proofs.Common.{◌≡◌, ℕ, suc, ◌+◌, ◌-◌, ◌*◌, ◌/◌, ◌%◌, ◌<◌, ◌≤◌, Bool, true, false, eqb, leb, ◌↔◌, List, [], ◌∷◌, ◌++◌, length, get_or, take, drop, Some, Ok, Result, sym, refl, ap, ◌∙◌, subst, ap₂, inl, inr, append_assoc, append-nil, suc-mul, mul-le-mul, zero-mul, arith, length-drop, take-append-drop, length-take, length-take-le, get_or-drop, get_or-take, drop-drop}
 use Rattle.std.proofs.lemmas.List.{drop_more, get_or_past, drop_all}
-use Rattle.std.proofs.lemmas.Bool.{cases_Bool, cases_lt, leb-true, eqb-true, cond-true, cond-false}
+use Rattle.std.proofs.lemmas.Bool.{leb-true, eqb-true}
 use Rattle.std.specs.List.{slice_get}
 use Rattle.symbols.specs.Order.{Order}
 use Rattle.symbols.specs.Wire.{Travel, WireLaws}
@@ -28,11 +28,7 @@ bytes_drop : (n : ℕ) (bs : List ℕ) → AllBytes bs → AllBytes (drop n bs)
 bytes_drop n bs all i = let h = all (n + i) in let e = get_or-drop n bs i 0 in omega arith
 
 bytes_take : (n : ℕ) (bs : List ℕ) → AllBytes bs → AllBytes (take n bs)
-bytes_take n bs all i = by (cases_lt i n)
-  where
-    by : (i < n) ⊎ (n ≤ i) → get_or (take n bs) i 0 < 256
-    by (inl h) = let a = all i in let e = get_or-take n bs i 0 h in omega arith
-    by (inr h) = let e = get_or_past (take n bs) i 0 (let l = length-take n bs in omega arith) in omega arith
+bytes_take n bs all i = let a = all i in grind (arith, get_or-take, get_or_past, length-take)
 
 be4_word : (a b c d : ℕ) → a < 256 → b < 256 → c < 256 → d < 256 → be4 (word_of a b c d) ≡ a ∷ b ∷ c ∷ d ∷ []
 be4_word a b c d ha hb hc hd =
@@ -68,11 +64,8 @@ pub record HeadRight (kind width capacity : ℕ) (bs : List ℕ) (h : Head) (res
   pub rest_is : drop 14 bs ≡ rest
 
 unless_ok : {X : Type 0} (b : Bool) (e : ReceiveFault) (r : Result X ReceiveFault) (x : X) → unless b e r ≡ Ok x → (b ≡ true) × (r ≡ Ok x)
-unless_ok {X} b e r x p = by (cases_Bool b)
-  where
-    by : (b ≡ true) ⊎ (b ≡ false) → (b ≡ true) × (r ≡ Ok x)
-    by (inl t) = (t, sym (cond-true b r (Err e) t) ∙ p)
-    by (inr f) = absurd (err_ok (cond-false b r (Err e) f) p)
+unless_ok true e r x p = (refl, p)
+unless_ok false e r x p = absurd (err_ok refl p)
 
 pub head_right : (kind width capacity : ℕ) (bs : List ℕ) (h : Head) (rest : List ℕ) → head_checked kind width capacity bs ≡ Ok (h, rest) → HeadRight kind width capacity bs h rest
 head_right kind width capacity bs h rest p =

@@ -1,5 +1,4 @@
 // Writing and receiving are inverse. Each theorem stands on the contract of a function that does nothing else.
-ghost use Rattle.wire.specs.Records.{travel};
 ghost use Rattle.receiving.specs.Statements.{OnlyWritten, TakesWritten};
 
 use symbols::{Symbol, WireSymbol};
