@@ -10,9 +10,6 @@ use Rattle.wire.specs.declared.faults.RecordFault.{RecordFault}
 use Rattle.wire.specs.declared.faults.RecordFault.TheVariants.{Label, LinkNotBelow, OneLinkZero, LabelNotAfter}
 use Rattle.wire.specs.declared.faults.FaultyRecord.{FaultyRecord}
 
-abbrev pub travel : {S : Type 0} → ℕ → ℕ → (S → List ℕ) → (List ℕ → Result S SymbolFault) → Travel S
-travel kind width bytes reads = record { kind = kind; width = width; bytes = bytes; reads = reads }
-
 module _ {S : Type 0} where
   -- the bytes of a record: its label, then its links
   abbrev pub record_bytes : (S → List ℕ) → Vertex S → List ℕ
