@@ -1,5 +1,6 @@
 -- What a line is answered, and what it leaves: the calls of the store, in the words of the line.
 use Rattle.std.specs.Prelude.{◌≡◌, ℕ, Bool, ◌⊎◌, List, take, Ok, Err, Result}
+use Rattle.std.specs.Borrow.{Bor}
 use Rattle.commands.specs.Grammar.{Line, Says, add, remove, holds, under, count, write, pick, join, receive}
 use Rattle.memory.specs.declared.work.Place.{Place}
 use Rattle.store.specs.declared.fault.Fault.{Fault}
@@ -21,10 +22,10 @@ abbrev pub Coded : {S : Type 0} → Result (List S) TextFault → State S → Re
 Coded (Ok code) s reply s' calls = calls code
 Coded (Err fault) s reply s' calls = (reply ≡ Err (faults.Text fault)) × (s' ≡ s)
 
--- the code that a text spells stands at the start of an output, cut where the room ends; or the text spells none
-abbrev pub Fitted : {S : Type 0} → Result (List S) TextFault → ℕ → Result ℕ TextFault → List S → Type 0
-Fitted {S} spelled room (Ok n) new = (code : List S) × (spelled ≡ Ok code) × (take n new ≡ take room code)
-Fitted spelled room (Err fault) new = spelled ≡ Err fault
+-- the code that a text spells, cut where the room ends; or the text spells none
+abbrev pub Fitted : {S : Type 0} → Result (List S) TextFault → ℕ → Result (Bor (List S)) TextFault → Type 0
+Fitted {S} spelled room (Ok part) = (code : List S) × (spelled ≡ Ok code) × (part.now ≡ take room code)
+Fitted spelled room (Err fault) = spelled ≡ Err fault
 
 module _ {S : Type 0} (before : S → S → Bool) (spells : List ℕ → Result (List S) TextFault) (capacity : ℕ) where
   -- what a readable line is answered: the call that it names, with its numbers and the code that its text spells, takes

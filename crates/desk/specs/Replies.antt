@@ -1,8 +1,8 @@
 -- What the result of a call is answered, the refusal of a line, and the text of a reply.
 use Rattle.std.specs.Prelude.{◌≡◌, ℕ, ◌<◌, true, false, ◌⊎◌, List, length, take, Ok, Err, codes, decimal, Result}
 use Rattle.symbols.specs.declared.Refusal.{Refusal}
-use Rattle.symbols.specs.Refusals.{plain}
 use Rattle.symbols.specs.declared.ShortOutput.{ShortOutput}
+use Rattle.symbols.specs.Refusals.{plain}
 use Rattle.commands.specs.Answers.{ended, refused_text}
 use Rattle.store.specs.declared.fault.Fault.{Fault}
 use Rattle.store.specs.Refusals as calls

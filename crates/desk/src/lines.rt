@@ -12,6 +12,7 @@ pub fn find_line_feed(bytes: &[u8]) -> Option<usize>
 // A line as far as it has come. It may begin in one chunk and end in another, so its bytes are held in a buffer of their
 // own, which is lent. What has no room there is dropped: with room for one byte more than a line may have, a longer line
 // still shows that it is, however long it is. Each byte is looked at once and copied once.
+// A buffer with a length, and no `Vec`: the desk takes no memory.
 #[derive(Drop)]
 pub struct Line<'a> {
     room: &'a mut [u8],

@@ -57,7 +57,7 @@ impl<'a> Conversation<'a> {
     // that may have to wait.
     fn read_line(&mut self) -> io::Result<bool> {
         self.line.clear();
-        // By count: no loop without an end is allowed.
+        // By count: input may have no end, and a loop must have one.
         for _ in 0..u64::MAX {
             if self.input.buffer().is_empty() {
                 self.output.flush()?;

@@ -9,6 +9,7 @@ use std::alloc::Global;
 use std::io;
 use std::io::{Error, ErrorKind};
 use store::store::Store;
+use symbols::LONGEST_CODE;
 use texts::TextSymbol;
 
 // How many vertices there may be, and how many buckets they are spread over.
@@ -23,7 +24,7 @@ const SLOTS: usize = 8192;
 const PLACES: usize = 2 * CAPACITY + 256;
 
 // One symbol more than a code may have: so a longer one shows.
-const CODE_ROOM: usize = 65;
+const CODE_ROOM: usize = LONGEST_CODE + 1;
 
 // More than the text of any code, and the longest answer line.
 const TEXT_ROOM: usize = 1024;
@@ -49,7 +50,7 @@ pub fn converse<S: TextSymbol + Clone>(
     let shelf = BucketShelf::new(&mut records, &mut heads);
     let recall = SlotTable::new(&mut slots);
     let mut store = Store::fit_out(shelf, recall);
-    // By count: no loop without an end is allowed.
+    // By count: input may have no end, and a loop must have one.
     for _ in 0..u64::MAX {
         let Some(line) = lines.next_line()? else {
             return lines.end();

@@ -92,6 +92,7 @@ fn make<R: RecallTable>(
     }
 }
 
+// Two functions: only one of the tables is lent memory.
 fn on_blank_table(rt: &HostRuntime, calls: &[RecallCall]) -> io::Result<()> {
     println!(rt; "== blank table")?;
     let mut table = Blank;

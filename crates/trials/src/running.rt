@@ -12,6 +12,7 @@ use row_shelf::RowShelf;
 use std::alloc::{AllocError, Global};
 use std::io;
 use store::store::Store;
+use symbols::LONGEST_CODE;
 use texts::TextSymbol;
 
 // What a store is given: how many vertices its shelf has room for, and how many places of work space there are.
@@ -72,10 +73,10 @@ struct Trial<S: TextSymbol + Clone, B: Shelf<S> + Drop, R: RecallTable + Drop> {
 }
 
 impl<S: TextSymbol + Clone, B: Shelf<S> + Drop, R: RecallTable + Drop> Trial<S, B, R> {
-    // Reads a code of at most 65 symbols, one more than a call takes. A text that spells no code gives the empty code; the
+    // Reads a code of at most one symbol more than a call takes. A text that spells no code gives the empty code; the
     // tables have no such text.
     fn read(&self, text: &str) -> Result<Vec<S>, AllocError> {
-        let mut code = vec![in self.heap; self.old; 65]?;
+        let mut code = vec![in self.heap; self.old; LONGEST_CODE + 1]?;
         let length = S::read_code(text.as_bytes(), &mut code).unwrap_or(0);
         code.truncate(length);
         Ok(code)
@@ -151,6 +152,7 @@ fn run<S: TextSymbol + Clone, B: Shelf<S> + Drop, R: RecallTable + Drop>(
     run_table(rt, table, |call| trial.make(call))
 }
 
+// Two functions, here and below: each shelf is lent memory of its own.
 fn on_row_shelf<S: TextSymbol + Clone>(
     rt: &HostRuntime,
     old: S,

@@ -79,6 +79,7 @@ fn make<B: Shelf<Letter>>(
     }
 }
 
+// Two functions: each shelf is lent memory of its own.
 pub fn on_row_shelf(rt: &HostRuntime, records: usize, table: &[ShelfCall]) -> io::Result<()> {
     println!(rt; "== row shelf of {records}")?;
     let mut old_records = vec![in rt.alloc(); OLD_VERTEX; records]?;
