@@ -1,7 +1,7 @@
 -- A text spelled letter by letter, and a code's text.
-use Rattle.std.specs.Prelude.{◌≡◌, ℕ, ◌+◌, ◌<◌, List, [], ◌∷◌, ◌++◌, length, take, drop, set, Ok, Err, Result, slice_index, slice_index_or, slice_set, refl}
+use Rattle.std.specs.Prelude.{◌≡◌, ℕ, ◌+◌, ◌<◌, ◌≤◌, List, [], ◌∷◌, ◌++◌, length, take, drop, set, Ok, Err, Result, slice_index, slice_index_or, slice_set, refl}
 use Rattle.std.proofs.Common.{sym, ap, ◌∙◌, arith}
-use Rattle.std.proofs.lemmas.List.{take_more, take-append-drop, drop_more, map_more, set_at, append_assoc, length-take-le, length-map}
+use Rattle.std.proofs.lemmas.List.{take_all, take_more, take-append-drop, drop_more, map_more, set_at, append_assoc, length-take-le, length-map}
 use Rattle.symbols.specs.declared.SymbolFault.{SymbolFault}
 use Rattle.texts.specs.declared.TextFault.{TextFault}
 use Rattle.texts.specs.declared.TextFault.TheVariants.{Symbol}
@@ -52,3 +52,6 @@ written_more code old i d l m =
     ∙ set_at (text_of (take i code)) (slice_index old i) (drop (i + 1) old) (byte_of (slice_index_or code i d)) i long
     ∙ sym (append_assoc (text_of (take i code)) (byte_of (slice_index_or code i d) ∷ []) (drop (i + 1) old))
     ∙ ap (λ s. s ++ drop (i + 1) old) (sym (map_more byte_of code i d l))
+
+pub spelled_all : (from : List ℕ) (code : List Letter) (i : ℕ) → length from ≤ i → spelled (take i from) ≡ Ok code → spelled from ≡ Ok code
+spelled_all from code i l h = ap spelled (sym (take_all i from l)) ∙ h

@@ -1,5 +1,5 @@
 // The records that a shelf is lent. Whatever else a record holds, it has a vertex: that of record i has the number i + 2.
-ghost use Rattle.std.specs.Prelude.{◌≡◌, ◌≤◌, min, true, ◌↔◌, map, length};
+ghost use Rattle.std.specs.Prelude.{◌≡◌, ◌≤◌, min, true, false, ◌↔◌, map, length};
 ghost use Rattle.std.specs.Option.{option_map};
 ghost use Rattle.ledger.specs.declared.Vertex.{Vertex};
 ghost use Rattle.ledger.specs.Diagrams.{look, parts};
@@ -63,6 +63,7 @@ pub fn number_vertices<S: Symbol, T: Record<S>>(records: &[T], marks: &mut [Plac
     ensures numbers { result ≡ true → Renumbered marks.old marks.new }
     ensures kept { result ≡ true → map (noted_vertex marks.new) (keep (marks_in marks.new) (map T.Record.vertex records.now)) ≡ gather (marks_in marks.old) (map T.Record.vertex records.now) }
     ensures same { marks_in marks.new ≡ marks_in marks.old }
+    ensures unchanged { result ≡ false → marks.new ≡ marks.old }
 {
     if marks.len() != records.len() || !all_stay(records, marks) {
         return false;

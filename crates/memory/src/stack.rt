@@ -1,5 +1,5 @@
 // A stack of places in a lent work space.
-ghost use Rattle.std.specs.Prelude.{◌≡◌, ◌<◌, [], ◌∷◌, length, MatchOption};
+ghost use Rattle.std.specs.Prelude.{◌≡◌, ◌<◌, [], ◌∷◌, length, None, MatchOption};
 
 use crate::work::Place;
 use std::marker::Model;
@@ -43,6 +43,7 @@ impl<'a> Stack<'a> {
     // Takes the top place off, or finds none.
     pub fn pop(&mut self) -> Option<Place>
         ensures frames { MatchOption result (self.old.frames ≡ []) (λ place. self.old.frames ≡ place ∷ self.new.frames) }
+        ensures none { result ≡ None → self.new.frames ≡ [] }
         ensures room { self.new.room ≡ self.old.room }
     {
         if self.height == 0 {

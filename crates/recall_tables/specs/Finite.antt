@@ -1,5 +1,5 @@
 -- A table in slots is finite: each question with an entry stands in a slot.
-use Rattle.std.specs.Prelude.{◌≡◌, ℕ, zero, suc, true, false, ◌&&◌, ◌⊎◌, List, [], ◌∷◌, map, Some, None, Option, ◌==◌, refl}
+use Rattle.std.specs.Prelude.{◌≡◌, ℕ, zero, suc, true, false, ◌&&◌, ◌⊎◌, ◌≢◌, List, [], ◌∷◌, map, Some, None, Option, ◌==◌, refl}
 use mathlib.Core.List.{Memᴰ}
 use Rattle.std.proofs.Common.{inl, inr, sym, ap, ◌∙◌}
 use Rattle.std.specs.List.{slice_get}
@@ -9,8 +9,11 @@ use Rattle.memory.specs.Tables.{Finite}
 use Rattle.recall_tables.specs.declared.Slot.{Slot}
 use Rattle.recall_tables.specs.Slots.{same_question, filled_in, entry_in, slot_count, slot_of, held}
 
+none_some : {n : ℕ} → None ≢ Some n
+none_some e = cc
+
 pub none_finite : Finite (λ (q : Question). None)
-none_finite = ([], λ q n e. absurd (cc))
+none_finite = ([], λ q n e. absurd (none_some e))
 
 -- questions that are the same, part by part, are one
 pub one_question : (a b : Question) → same_question a b ≡ true → a ≡ b

@@ -1,3 +1,4 @@
+pub mod Decimals
 mod Examples
 pub mod Laying
 pub mod Texts
