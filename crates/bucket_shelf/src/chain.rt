@@ -25,6 +25,7 @@ impl<S: Symbol> BucketShelf<'_, S> {
     {
         let mut found = None;
         let mut top = self.heads[at].min(self.used);
+        // No count: each step goes where `next` leads.
         while top > 0 {
             let entry = self.records[(top - 1) as usize];
             if same_vertex(entry.vertex, wanted) {

@@ -21,7 +21,8 @@ use symbols::Symbol;
 
 mod chain;
 
-// A vertex in its bucket's chain: `next` is one more than the index of the next lower vertex of the bucket, or 0.
+// A vertex in its bucket's chain: `next` is one more than the index of the next lower vertex of the bucket, or 0: a plain
+// number, as the heads are, since the memory is lent as it lies.
 #[derive(Clone, Copy)]
 pub struct Entry<S> {
     pub vertex: Vertex<S>,
@@ -133,6 +134,7 @@ impl<'a, S: Symbol> Shelf<S> for BucketShelf<'a, S> {
     fn find_or_append(&mut self, label: S, zero: u32, one: u32) -> Result<u32, Full> {
         let vertex = Vertex { label, zero, one };
         let at = self.bucket_of(vertex).ok_or(Full)?;
+        // By cases: as `map_or_else`, both closures would need the shelf.
         match self.find_in(at, vertex) {
             Some(n) => Ok(n),
             None => self.push(at, vertex),
@@ -144,7 +146,7 @@ impl<'a, S: Symbol> Shelf<S> for BucketShelf<'a, S> {
         if n == 0 {
             self.heads.fill(0);
         } else {
-            // A reference of its own: both runs are lent in one call.
+            // A reference of its own: of a field lent on as `&[_]` nothing is told after.
             let records = &mut *self.records;
             chain::unlink(records, self.heads, self.used, n);
         }

@@ -1,5 +1,5 @@
-// What a user of the store has from its contracts, and with no work: a store is fitted out and called, and every condition
-// of a call is met by what the call before it promised.
+// What a user of the store has from its contracts, and with no work: a store is fitted out and called, and no call asks
+// anything.
 #![tactic(auto)]
 
 ghost use Rattle.std.specs.Prelude.{◌≡◌};

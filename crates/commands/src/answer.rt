@@ -17,6 +17,7 @@ pub enum Answer<'a> {
     No,
     Code(&'a [u8]),
     Bytes(&'a [u8]),
+    // By its number, which the rules fix and the line prints.
     Refused(u8),
 }
 

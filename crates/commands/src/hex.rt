@@ -19,10 +19,7 @@ pub enum HexFault {
 fn is_digit(b: u8) -> bool
     ensures { result ≡ is_digit b }
 {
-    match b {
-        b'0'..=b'9' | b'a'..=b'f' => true,
-        _ => false,
-    }
+    matches!(b, b'0'..=b'9' | b'a'..=b'f')
 }
 
 // Whether a text is digits alone.
@@ -40,6 +37,7 @@ pub(crate) fn is_hex(text: &[u8]) -> bool
 }
 
 // The number that a digit stands for.
+// By hand, as the next three: the kit's `hex` reads capitals too.
 fn digit_value(b: u8) -> u8
     requires { is_digit b ≡ true }
     ensures { (result < 16) × (digit result ≡ b) }
@@ -75,7 +73,7 @@ pub fn decode_hex(hex: &[u8], out: &mut [u8]) -> Result<usize, HexFault>
     if out.len() < count {
         return Err(HexFault::OutputTooShort);
     }
-    // By index: it reads two places and writes one.
+    // By index: of an output that `iter_mut` lends beside `chunks_exact` nothing is told after.
     for i in 0..count {
         out[i] = read_pair(hex[2 * i], hex[2 * i + 1]);
     }
@@ -89,7 +87,7 @@ pub fn encode_hex(bytes: &[u8], out: &mut [u8]) -> Result<usize, ShortOutput>
     if out.len() / 2 < bytes.len() {
         return Err(ShortOutput);
     }
-    // By index: it writes two places for each byte.
+    // By index: of an output that `chunks_mut` lends nothing is told after.
     for (i, b) in bytes.iter().enumerate() {
         out[2 * i] = write_digit(*b / 16);
         out[2 * i + 1] = write_digit(*b % 16);

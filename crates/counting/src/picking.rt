@@ -33,6 +33,7 @@ struct Spot {
 #[derive(Clone, Copy)]
 struct Course {
     rest: Spot,
+    // A length beside the output, which is lent by the call.
     length: usize,
 }
 

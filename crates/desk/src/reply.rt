@@ -60,7 +60,8 @@ impl From<LineFault> for Refusal {
     }
 }
 
-// The answer of a line, where `text` is the text of the code if it is one.
+// The answer of a line, where `text` is the text of the code if it is one. A function, since the answer borrows: made and passed
+// on at once it is not covered by the proof of borrows.
 fn answer_of<'a>(reply: Result<Reply, LineFault>, text: &'a [u8]) -> Answer<'a>
     ensures { answer_text result ≡ reply_text text.now reply }
 {

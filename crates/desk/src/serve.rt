@@ -1,4 +1,5 @@
-// Serving a line: it is read as a command, the command is called on the store, and the result is written.
+// Serving a line: it is read as a command, the command is called on the store, and the result is written. Room for a code is
+// lent, so what is answered with room for 65 symbols stands in each clause.
 ghost use Rattle.std.specs.Prelude.{◌≡◌, ◌≤◌, length, Result};
 ghost use Rattle.commands.specs.Meaning.{meaning};
 ghost use Rattle.store.specs.State.{seen};
@@ -35,6 +36,7 @@ fn perform<S: TextSymbol, B: Shelf<S>, R: RecallTable>(
     ensures answer { 65 ≤ length code.old → Calls S.Symbol.before S.TextSymbol.spells store.old.capacity (seen R.RecallTable.table store.old) work.old code.old (meaning command.entry) result (seen R.RecallTable.table store.new) code.new }
     ensures size { store.new.capacity ≡ store.old.capacity }
 {
+    // By cases: a command is what a line says.
     match command {
         Command::Add { list, code: text } => {
             Ok(Reply::List(store.add(list, read_text(text, code)?, work)?))

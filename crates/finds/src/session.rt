@@ -20,7 +20,7 @@ const HEADS: usize = 2048;
 // How many answers of joins are recalled.
 const SLOTS: usize = 8192;
 
-// What every call needs of work space.
+// What the calls need of work space.
 const PLACES: usize = 2 * CAPACITY + 256;
 
 // One symbol more than a code may have: so a longer one shows.
@@ -55,16 +55,15 @@ pub fn converse<S: TextSymbol + Clone>(
         let Some(line) = lines.next_line()? else {
             return lines.end();
         };
-        let Ok(n) = serve(
+        let n = serve(
             &mut store,
             line,
             &mut code,
             &mut work,
             &mut text,
             &mut answer,
-        ) else {
-            return Err(Error::from(ErrorKind::WriteZero));
-        };
+        )
+        .map_err(|_| Error::from(ErrorKind::WriteZero))?;
         lines.answer(&answer[0..n])?;
     }
     Err(Error::from(ErrorKind::TimedOut))

@@ -306,6 +306,7 @@ impl TextSymbol for Letter {
 fn read_letters(from: &[u8], out: &mut [Letter]) -> Result<usize, TextFault>
     ensures { Begun (spelled from.now) out.old result out.new }
 {
+    // By index: the output may have room for fewer.
     for (i, b) in from.iter().enumerate() {
         let letter = Letter::try_from(*b)?;
         put(out, i, letter);
@@ -321,7 +322,7 @@ fn write_letters(code: &[Letter], out: &mut [u8]) -> Result<usize, ShortOutput>
     if code.len() > out.len() {
         return Err(ShortOutput);
     }
-    // By index: what `iter_mut` lends leaves the rest of the slice untold.
+    // By index: of an output that `iter_mut` lends beside another slice nothing is told after.
     for (i, letter) in code.iter().enumerate() {
         out[i] = u8::from(*letter);
     }

@@ -19,6 +19,7 @@ pub fn number_marks(marks: &mut [Place]) -> u32
     ensures same { marks_in marks.new ≡ marks_in marks.old }
 {
     let mut count: u32 = 0;
+    // One pass: a place's number is the count so far.
     for place in marks.iter_mut() {
         place.number = count + 2;
         count += u32::from(place.state != 0);

@@ -56,6 +56,7 @@ pub fn mark_reached<S: Symbol, B: Shelf<S>>(shelf: &B, lists: &[u32], marks: &mu
     marks.fill(Place::default());
     mark_each(lists, marks);
     let last = marks.len() as u32 + 1;
+    // By number: a link leads to a lower one.
     for n in (2..=last).rev() {
         visit(shelf, n, marks);
     }

@@ -19,7 +19,8 @@ pub fn read_vertex<S: Symbol, B: Shelf<S>>(shelf: &B, n: u32) -> Option<(S, u32,
     Some((label, zero.min(top), one.min(top)))
 }
 
-// Whether two vertices are equal. The links are compared first: they differ most often.
+// Whether two vertices are equal, by hand, since a symbol has an order and no `==`. The links are compared first: they differ
+// most often.
 pub fn same_vertex<S: Symbol>(v: Vertex<S>, w: Vertex<S>) -> bool
     ensures { (result ≡ true) ↔ (v ≡ w) }
 {

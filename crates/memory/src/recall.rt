@@ -6,6 +6,7 @@ ghost use Rattle.memory.specs.Tables.{Finite, Told};
 // What may be recalled: the answer to a join by a rule of two list numbers.
 #[derive(Clone, Copy, Default, PartialEq, Eq)]
 pub struct Question {
+    // By its number: any number may be asked, and slots lie in lent memory.
     pub rule: u8,
     pub first: u32,
     pub second: u32,

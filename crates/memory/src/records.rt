@@ -48,6 +48,7 @@ fn all_stay<S: Symbol, T: Record<S>>(records: &[T], marks: &[Place]) -> bool
     requires { length records.now ≤ 1000000 }
     ensures { (result ≡ true) ↔ AllStay (marks_in marks.now) (map T.Record.vertex records.now) }
 {
+    // A loop: of `all` the fact about every vertex was tried, and not found.
     for (i, record) in records.iter().enumerate() {
         if !vertex_stays(marks, i as u32 + 2, record.vertex()) {
             return false;

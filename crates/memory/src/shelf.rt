@@ -21,7 +21,8 @@ pub trait Shelf<S: Symbol> {
     ghost capacity: { Self → ℕ };
 
     // whether what helps the search, if there is such a thing, fits the vertices: from the first cut to 0 on it does,
-    // whatever lay in memory before
+    // whatever lay in memory before. That it stays, and the capacity, is said of each change: it relates the shelf before and
+    // after, which no field can.
     ghost ready: { Self → Type 0 };
 
     ghost bounds: { (s : Self) → (length (vertices s) ≤ capacity s) × (capacity s ≤ 1000000) };
@@ -53,6 +54,7 @@ pub trait Shelf<S: Symbol> {
         ensures ready { ready self.old → ready self.new }
         ensures size { capacity self.new ≡ capacity self.old }
     {
+        // By cases: as `map_or_else`, both closures would need the shelf.
         match self.find(label, zero, one) {
             Some(n) => Ok(n),
             None => self.append(label, zero, one),
@@ -68,7 +70,7 @@ pub trait Shelf<S: Symbol> {
 
     // Keeps the marked vertices, in their order, and renumbers their links; each place then has its vertex's new
     // number. Answers no, changing no vertex, where the marks are not one a vertex, or a marked vertex has a link to an
-    // unmarked one or to a number not below its own.
+    // unmarked one or to a number not below its own: a yes or a no, as the rules have it.
     fn gather(&mut self, marks: &mut [Place]) -> bool
         ensures answer { (result ≡ true) ↔ Gatherable (marks_in marks.old) (vertices self.old) }
         ensures vertices { vertices self.new ≡ (if result then gather (marks_in marks.old) (vertices self.old) else vertices self.old) }

@@ -1,5 +1,5 @@
-// One place of work space: plain numbers that a call fills in and reads again. Each walk says what it keeps where; what
-// a place holds before a call, and after it, means nothing.
+// One place of work space: plain numbers that a call fills in and reads again, since the memory is lent as it lies. Each walk
+// says what it keeps where; what a place holds before a call, and after it, means nothing.
 #[derive(Clone, Copy, Default)]
 pub struct Place {
     pub state: u32,

@@ -77,6 +77,7 @@ fn descend<S: Symbol, B: Shelf<S>>(shelf: &B, list: u32, code: &[S], stack: &mut
     ensures waits { WhenGood S.Symbol.before (B.Shelf.vertices shelf.now) list (λ t. (change : Change) → Waits S.Symbol.before (B.Shelf.vertices shelf.now) code.now stack.new.frames (codes (B.Shelf.vertices shelf.now) (end_number change)) (changed S.Symbol.before change t code.now)) }
 {
     let mut at = list;
+    // By place: a frame keeps which symbol of the code it waits with.
     let mut spot = 0;
     while let Some((frame, next, then)) = step(shelf, at, code, spot) {
         stack.push(Place::from(frame));

@@ -17,6 +17,7 @@ impl From<Frame> for Place {
     ghost from_gives = { λ frame place. frame_in place ≡ frame };
 
     fn from(frame: Frame) -> Place {
+        // Which frame it is stands as a plain number, as all that a place keeps.
         match frame {
             Frame::Zero { vertex } => Place {
                 list: vertex,

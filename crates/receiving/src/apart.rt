@@ -15,7 +15,7 @@ use memory::reading::same_vertex;
 use memory::work::Place;
 use symbols::{Symbol, WireSymbol};
 
-// Puts record k in front of a bucket.
+// Puts record k in front of a bucket. Links are indices and one more, 0 for none, since the memory is lent as it lies.
 fn put_in_front(work: &mut [Place], b: usize, k: u32)
     requires bucket { b < length work.old }
     requires index { k < length work.old }
@@ -50,7 +50,7 @@ impl<S: WireSymbol> Records<'_, S> {
     {
         let count = self.count();
         work[..count as usize].fill(Place::default());
-        // By number: the table is made of numbers.
+        // By number: a record is put in the table, and found there, by its number.
         for k in 0..count {
             let vertex = self.record(k);
             if self.seen_before(work, k, vertex) {

@@ -11,7 +11,7 @@ ghost use Rattle.receiving.specs.Layings.{Settled};
 
 use crate::records::Records;
 use ledger::Vertex;
-use memory::marks::new_link;
+use memory::marks::{new_link, new_vertex};
 use memory::shelf::{Full, Shelf};
 use memory::work::Place;
 use symbols::{Symbol, WireSymbol};
@@ -26,9 +26,8 @@ fn lay_vertex<S: Symbol, B: Shelf<S>>(
     ensures ready { B.Shelf.ready shelf.old → B.Shelf.ready shelf.new }
     ensures size { B.Shelf.capacity shelf.new ≡ B.Shelf.capacity shelf.old }
 {
-    let zero = new_link(work, vertex.zero);
-    let one = new_link(work, vertex.one);
-    shelf.find_or_append(vertex.label, zero, one)
+    let Vertex { label, zero, one } = new_vertex(work, vertex);
+    shelf.find_or_append(label, zero, one)
 }
 
 impl<S: WireSymbol> Records<'_, S> {

@@ -2,7 +2,8 @@
 //
 // The head is checked, then each record, then that the bytes are those that writing gives, then how long the codes are;
 // only then is anything laid down, and where it does not fit the shelf is cut back. Any bytes of any length are taken. The
-// time is linear in them, where the buckets of equal records are even; nothing is kept but in the work space.
+// time is linear in them, where the buckets of equal records are even; nothing is kept but in the work space, which is lent, so
+// each function says how much of it there is.
 #![tactic(auto)]
 
 ghost use Rattle.std.specs.Prelude.{◌≡◌, ◌+◌, ◌*◌, ◌≤◌, true, ◌↔◌, length};

@@ -35,6 +35,7 @@ impl From<Task> for Place {
     ghost from_gives = { λ task place. place ≡ place_of task };
 
     fn from(task: Task) -> Place {
+        // Which task it is stands as a plain number, as all that a place keeps.
         let (state, list) = match task {
             Task::Visit(n) => (0, n),
             Task::Close(n) => (1, n),
@@ -58,6 +59,7 @@ impl<S: WireSymbol> Records<'_, S> {
         ensures room { stack.new.room ≡ stack.old.room }
     {
         let next = u64::from(passed) + 2;
+        // A task is a value: what waits lies in lent places, which can hold no closure.
         match task {
             Task::Close(n) if u64::from(n) == next => Some(passed + 1),
             Task::Close(_) => None,

@@ -1,11 +1,7 @@
 -- A shelf in a row: what a run of records means as a shelf.
 use Rattle.std.specs.Prelude.{◌≡◌, ℕ, ◌+◌, ◌<◌, ◌≤◌, min, List, [], ◌∷◌, ◌++◌, length, take, Some, None, Ok, Err, Option, Result}
 use Rattle.std.proofs.Common.{length-take, arith}
-use Rattle.ledger.specs.declared.Vertex.{Vertex}
-use Rattle.ledger.specs.Gather.{gather, Gatherable}
 use Rattle.memory.specs.declared.shelf.Full.{Full}
-use Rattle.memory.specs.declared.work.Place.{Place}
-use Rattle.memory.specs.Shelves.{marks_in, Renumbered}
 
 -- a run holds a vertex a record, and at most a million
 abbrev pub row_capacity : {X : Type 0} → List X → ℕ
@@ -18,10 +14,3 @@ row_bounds used run h = (omega (arith, length-take used run), omega arith)
 abbrev pub RowAppends : {X : Type 0} → ℕ → List X → X → Result ℕ Full → List X → Type 0
 RowAppends used xs x (Ok m) ys = (used < row_capacity xs) × (take m ys ≡ take used xs ++ x ∷ []) × (m ≡ used + 1)
 RowAppends used xs x (Err e) ys = (used ≡ row_capacity xs) × (ys ≡ xs)
-
--- the first `used` records become the marked ones, r many, and each place has its vertex's new number; or the marks do
--- not fit, and the run stays as it is
-abbrev pub Gathers : {S : Type 0} → ℕ → List (Vertex S) → List Place → Option ℕ → List (Vertex S) → List Place → Type 0
-Gathers used xs ps None ys qs = (Gatherable (marks_in ps) (take used xs) → ⊥) × (ys ≡ xs)
-Gathers used xs ps (Some r) ys qs =
-    Gatherable (marks_in ps) (take used xs) × (r ≤ used) × (take r ys ≡ gather (marks_in ps) (take used xs)) × Renumbered ps qs

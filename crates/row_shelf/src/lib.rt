@@ -76,10 +76,10 @@ impl<'a, S: Symbol> Shelf<S> for RowShelf<'a, S> {
     }
 
     fn gather(&mut self, marks: &mut [Place]) -> bool {
-        let Some(kept) = run::gather(self.run, self.used, marks) else {
+        if !records::number_vertices(self.vertices(), marks) {
             return false;
-        };
-        self.used = kept;
+        }
+        self.used = run::keep(self.run, self.used, marks);
         true
     }
 }

@@ -1,16 +1,17 @@
-// What the shelf does, on the run of records that it is handed: the first `used` of them are its vertices.
+// What the shelf does, on the run of records that it is handed: the first `used` of them are its vertices. Functions of the
+// run: the shelf's methods pass it on.
 ghost use Rattle.std.specs.Prelude.{◌≡◌, ◌≤◌, map, length, take};
 ghost use Rattle.ledger.specs.declared.Vertex.{Vertex};
 ghost use Rattle.ledger.specs.Gather.{keep};
 ghost use Rattle.ledger.specs.Laid.{First};
 ghost use Rattle.memory.specs.Marks.{noted_vertex};
 ghost use Rattle.memory.specs.Shelves.{marks_in};
-ghost use Rattle.row_shelf.specs.Row.{Gathers, RowAppends, row_capacity};
+ghost use Rattle.row_shelf.specs.Row.{RowAppends, row_capacity};
 
 use ledger::Vertex;
 use memory::marks::{is_marked, new_vertex};
 use memory::reading::same_vertex;
-use memory::records::{capacity, number_vertices};
+use memory::records::capacity;
 use memory::shelf::Full;
 use memory::work::Place;
 use symbols::Symbol;
@@ -40,7 +41,8 @@ pub(crate) fn append<S: Symbol>(
     Ok(used + 1)
 }
 
-// Moves the marked vertices to the front, their links renumbered from the places, and says how many there are.
+// Moves the marked vertices to the front, their links renumbered from the places, and says how many there are. One such
+// function a shelf: another record is written, and here no chain is made.
 pub(crate) fn keep<S: Symbol>(run: &mut [Vertex<S>], used: u32, marks: &[Place]) -> u32
     requires used { used ≤ row_capacity run.old }
     requires marks { length marks.now ≡ used }
@@ -56,19 +58,4 @@ pub(crate) fn keep<S: Symbol>(run: &mut [Vertex<S>], used: u32, marks: &[Place])
         }
     }
     to
-}
-
-// Keeps the marked vertices and says how many there are; nothing, and no vertex changed, where the marks do not fit.
-pub(crate) fn gather<S: Symbol>(
-    run: &mut [Vertex<S>],
-    used: u32,
-    marks: &mut [Place],
-) -> Option<u32>
-    requires { used ≤ row_capacity run.old }
-    ensures { Gathers used run.old marks.old result run.new marks.new }
-{
-    if !number_vertices(&run[..used as usize], marks) {
-        return None;
-    }
-    Some(keep(run, used, marks))
 }

@@ -40,6 +40,7 @@ fn lengthen(number: u16, b: u8) -> Option<u16>
 fn read_byte(stage: Stage, b: u8) -> Option<Turn>
     ensures { result ≡ turned stage b }
 {
+    // A stage is a value: each byte finds the reading where the last one left it.
     match stage {
         Stage::Start => {
             let unit = Unit::from_letter(char::from(b))?;
@@ -103,6 +104,7 @@ pub fn read_steps(from: &[u8], out: &mut [Step]) -> Result<usize, TextFault>
         return Ok(0);
     }
     let mut stage = Stage::Start;
+    // A count beside the output, which is lent by the call.
     let mut count: usize = 0;
     for b in from {
         let turn = read_byte(stage, *b).ok_or(TextFault::Unreadable)?;

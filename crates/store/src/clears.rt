@@ -16,6 +16,7 @@ impl<S: Symbol, B: Shelf<S>, R: RecallTable> Store<S, B, R> {
         ensures { result ≡ answered (check_lists self.now.vertices 0 keep.now None) tt }
     {
         let used = self.used();
+        // By place: it is what the refusal tells.
         for (place, list) in keep.iter().enumerate() {
             if *list > used + 1 {
                 return Err(Fault::NoSuchList { place });

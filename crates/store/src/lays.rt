@@ -28,6 +28,7 @@ impl<S: Symbol, B: Shelf<S>, R: RecallTable> Store<S, B, R> {
         self.check_list(0, list)?;
         check_code(code)?;
         self.check_work(work)?;
+        // By cases: a refusal forgets the table as well.
         match paths::changing::alter(&mut self.shelf, change, list, code, work) {
             Ok(n) => Ok(n),
             Err(Full) => {

@@ -34,7 +34,7 @@ impl Memory {
 }
 
 // A place as an earlier call may have left it.
-const OLD_PLACE: Place = Place {
+pub const OLD_PLACE: Place = Place {
     state: 3,
     list: 5,
     other: 4,

@@ -1,5 +1,6 @@
 // Running a table on a shelf, over memory that holds old vertices.
 use crate::answer::{Found, YesOrNo, run_table};
+use crate::running::OLD_PLACE;
 use crate::shelf_call::{Drawn, ShelfCall};
 use bucket_shelf::{BucketShelf, Entry};
 use ledger::Vertex;
@@ -36,10 +37,7 @@ fn places_of(heap: Global, marks: &str) -> Result<Vec<Place>, AllocError> {
         .bytes()
         .map(|mark| Place {
             state: u32::from(mark == b'+'),
-            list: 5,
-            other: 4,
-            number: 7,
-            count: 9,
+            ..OLD_PLACE
         })
         .collect(heap)
 }

@@ -12,6 +12,7 @@ pub const VERSION: u8 = 1;
 #[derive(Clone, Copy, Debug, PartialEq, Eq)]
 pub struct Head {
     pub whole: u32,
+    // Numbers as they stand in the bytes: they are checked after the head is read.
     pub version: u8,
     pub kind: u8,
     pub count: u32,

@@ -38,7 +38,8 @@ fn write_kth<S: WireSymbol, B: Shelf<S>>(shelf: &B, seen: &Seen, k: u32, out: &m
     }
 }
 
-// Writes the records behind the head. By index: record k has its own place in the output.
+// Writes the records behind the head. By number: of an output that `chunks_mut` lends nothing is told
+// after.
 pub(crate) fn write_records<S: WireSymbol, B: Shelf<S>>(shelf: &B, seen: &Seen, out: &mut [u8])
     requires { 14 + seen.now.met * (S.WireSymbol.travel.width + 8) ≤ length out.old }
     ensures kept { drop (14 + seen.now.met * (S.WireSymbol.travel.width + 8)) out.new ≡ drop (14 + seen.now.met * (S.WireSymbol.travel.width + 8)) out.old }
