@@ -1,29 +1,9 @@
 -- The stack of a walk, and that a walk ends.
-use Rattle.std.proofs.Common.{◌≡◌, ℕ, zero, suc, ◌+◌, ◌-◌, ◌*◌, ◌<◌, ◌≤◌, ◌≢◌, List, [], ◌∷◌, length, set, refl, ap, suc-mul, arith, get_or-set_other, get_or-set_same}
+use Rattle.std.proofs.Common.{◌≡◌, ℕ, zero, suc, ◌+◌, ◌-◌, ◌*◌, ◌<◌, ◌≤◌, ◌≢◌, List, [], ◌∷◌, length, ap, ◌∙◌, suc-mul, arith}
 use Rattle.memory.specs.declared.work.Place.{Place}
-use Rattle.writing.specs.Met.{vacant, list_at, Unmet, with_met}
-use Rattle.writing.specs.Walks.{waiting_place, waiting, Above, Stacked, starting, first_of}
+use Rattle.writing.specs.Met.{Unmet, with_met}
+use Rattle.writing.specs.Walks.{waiting, Above, Stacked, first_of}
 use Rattle.writing.proofs.Meeting.{met_long, unmet_more}
-
-pub length_waiting : (st : List Place) (d : ℕ) → length (waiting st d) ≡ d
-length_waiting st zero = refl
-length_waiting st (suc d) = ap suc (length_waiting st d)
-
--- the last that waits, and the others
-pub waiting_last : (st : List Place) (d : ℕ) → 0 < d → waiting st d ≡ list_at st (d - 1) ∷ waiting st (d - 1)
-waiting_last st zero h = absurd (omega arith)
-waiting_last st (suc d) h = let e : suc d - 1 ≡ d = omega arith in rw e refl
-
-waiting_below : (st : List Place) (i : ℕ) (p : Place) (d : ℕ) → d ≤ i → waiting (set st i p) d ≡ waiting st d
-waiting_below st i p zero h = refl
-waiting_below st i p (suc d) h =
-    let other : d ≢ i = omega arith in
-    (λ j. (get_or-set_other st i d p vacant other j).list ∷ waiting_below st i p d (omega arith) j)
-
-pub waiting_push : (st : List Place) (d n : ℕ) → d < length st → waiting (set st d (waiting_place n)) (d + 1) ≡ n ∷ waiting st d
-waiting_push st d n h =
-    let e : d + 1 ≡ suc d = omega arith in
-    rw e (λ j. (get_or-set_same st d (waiting_place n) vacant h j).list ∷ waiting_below st d (waiting_place n) d (omega arith) j)
 
 above_less : (link n : ℕ) (ns : List ℕ) → link < n → Above n ns → Above link ns
 above_less link n [] h a = tt
@@ -64,7 +44,9 @@ pub first_small : (ps : List Place) (m : ℕ) (ns : List ℕ) → Stacked ps m n
 first_small ps m [] s = omega arith
 first_small ps m (n ∷ ns) s = let b = s.1 in omega arith
 
-pub stacked_start : (ps : List Place) (list : ℕ) → list ≤ length ps + 1 → Stacked ps 0 (starting list)
-stacked_start ps zero h = tt
-stacked_start ps (suc zero) h = tt
-stacked_start ps (suc (suc k)) h = (omega arith, omega arith, λ j l e. omega arith, tt, tt)
+pub stacked_start : (ps : List Place) (list : ℕ) → 2 ≤ list → list ≤ length ps + 1 → Stacked ps 0 (list ∷ [])
+stacked_start ps list low high = (low, omega arith, λ j l e. omega arith, tt, tt)
+
+-- two places more
+pub waiting_push : (p q : Place) (n : ℕ) (frames once twice : List Place) → once ≡ p ∷ frames → q.list ≡ n → twice ≡ q ∷ once → waiting twice ≡ n ∷ p.list ∷ waiting frames
+waiting_push p q n frames once twice e f g = ap waiting g ∙ (λ i. f i ∷ waiting (e i))
