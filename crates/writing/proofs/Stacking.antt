@@ -1,5 +1,5 @@
 -- The stack of a walk, and that a walk ends.
-use Rattle.std.proofs.Common.{◌≡◌, ℕ, zero, suc, ◌+◌, ◌-◌, ◌*◌, ◌<◌, ◌≤◌, ◌≢◌, List, [], ◌∷◌, length, ap, ◌∙◌, suc-mul, arith}
+use Rattle.std.proofs.Common.{◌≡◌, ℕ, suc, ◌+◌, ◌-◌, ◌*◌, ◌<◌, ◌≤◌, ◌≢◌, List, [], ◌∷◌, length, ap, ◌∙◌, suc-mul, arith}
 use Rattle.memory.specs.declared.work.Place.{Place}
 use Rattle.writing.specs.Met.{Unmet, with_met}
 use Rattle.writing.specs.Walks.{waiting, Above, Stacked, first_of}
@@ -12,10 +12,6 @@ above_less link n (k ∷ ns) h a = (let b = a.0 in omega arith, above_less link 
 module _ (ps : List Place) (m : ℕ) where
   pub stacked_push : (link n : ℕ) (ns : List ℕ) → link < n → 2 ≤ link → Unmet ps m link → Stacked ps m (n ∷ ns) → Stacked ps m (link ∷ n ∷ ns)
   stacked_push link n ns h low new s = (low, let b = s.1 in omega arith, new, (h, above_less link n ns h s.3), s)
-
-  -- as many wait as there are vertices, at most
-  pub stacked_few : (n : ℕ) (ns : List ℕ) → Stacked ps m (n ∷ ns) → length ns < length ps
-  stacked_few n ns s = let a = s.0 in let b = s.1 in omega arith
 
   module _ (n : ℕ) (few : m < length ps) (low : 2 ≤ n) (high : n ≤ length ps + 1) where
     pub stacked_pop : (ns : List ℕ) → Above n ns → Stacked ps m ns → Stacked (with_met ps m n) (suc m) ns
@@ -43,9 +39,6 @@ less_meet used m top n h l =
 pub first_small : (ps : List Place) (m : ℕ) (ns : List ℕ) → Stacked ps m ns → first_of ns ≤ length ps + 1
 first_small ps m [] s = omega arith
 first_small ps m (n ∷ ns) s = let b = s.1 in omega arith
-
-pub stacked_start : (ps : List Place) (list : ℕ) → 2 ≤ list → list ≤ length ps + 1 → Stacked ps 0 (list ∷ [])
-stacked_start ps list low high = (low, omega arith, λ j l e. omega arith, tt, tt)
 
 -- two places more
 pub waiting_push : (p q : Place) (n : ℕ) (frames once twice : List Place) → once ≡ p ∷ frames → q.list ≡ n → twice ≡ q ∷ once → waiting twice ≡ n ∷ p.list ∷ waiting frames

@@ -1,11 +1,11 @@
 -- The walk that meets the vertices of a list: a means of the proofs.
-use Rattle.std.specs.Prelude.{◌≡◌, ℕ, zero, suc, ◌+◌, ◌-◌, ◌*◌, ◌<◌, ◌≤◌, Bool, ◌⊎◌, List, [], ◌∷◌, map, length, Some, None, Option}
+use Rattle.std.specs.Prelude.{◌≡◌, ℕ, ◌+◌, ◌-◌, ◌*◌, ◌<◌, ◌≤◌, Bool, ◌⊎◌, List, [], ◌∷◌, map, length, Some, None, Option}
 use Rattle.memory.specs.declared.work.Place.{Place}
 use Rattle.ledger.specs.declared.Vertex.{Vertex}
 use Rattle.ledger.specs.Lists.{Codes}
 use Rattle.ledger.specs.Diagrams.{look}
 use Rattle.ledger.specs.Ledger.{lay, codes}
-use Rattle.writing.specs.Met.{list_at, met_numbers, Sparse, Met, Unmet}
+use Rattle.writing.specs.Met.{met_numbers, Sparse, Met, Unmet}
 
 -- the numbers that wait, the last first
 abbrev pub waiting : List Place → List ℕ
