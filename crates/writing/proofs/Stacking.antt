@@ -1,29 +1,9 @@
 -- The stack of a walk, and that a walk ends.
-use Rattle.std.proofs.Common.{◌≡◌, ℕ, zero, suc, ◌+◌, ◌-◌, ◌*◌, ◌<◌, ◌≤◌, ◌≢◌, List, [], ◌∷◌, length, set, refl, ap, suc-mul, arith, get_or-set_other, get_or-set_same}
+use Rattle.std.proofs.Common.{◌≡◌, ℕ, suc, ◌+◌, ◌-◌, ◌*◌, ◌<◌, ◌≤◌, ◌≢◌, List, [], ◌∷◌, length, ap, ◌∙◌, suc-mul, arith}
 use Rattle.memory.specs.declared.work.Place.{Place}
-use Rattle.writing.specs.Met.{vacant, list_at, Unmet, with_met}
-use Rattle.writing.specs.Walks.{waiting_place, waiting, Above, Stacked, starting, first_of}
+use Rattle.writing.specs.Met.{Unmet, with_met}
+use Rattle.writing.specs.Walks.{waiting, Above, Stacked, first_of}
 use Rattle.writing.proofs.Meeting.{met_long, unmet_more}
-
-pub length_waiting : (st : List Place) (d : ℕ) → length (waiting st d) ≡ d
-length_waiting st zero = refl
-length_waiting st (suc d) = ap suc (length_waiting st d)
-
--- the last that waits, and the others
-pub waiting_last : (st : List Place) (d : ℕ) → 0 < d → waiting st d ≡ list_at st (d - 1) ∷ waiting st (d - 1)
-waiting_last st zero h = absurd (omega arith)
-waiting_last st (suc d) h = let e : suc d - 1 ≡ d = omega arith in rw e refl
-
-waiting_below : (st : List Place) (i : ℕ) (p : Place) (d : ℕ) → d ≤ i → waiting (set st i p) d ≡ waiting st d
-waiting_below st i p zero h = refl
-waiting_below st i p (suc d) h =
-    let other : d ≢ i = omega arith in
-    (λ j. (get_or-set_other st i d p vacant other j).list ∷ waiting_below st i p d (omega arith) j)
-
-pub waiting_push : (st : List Place) (d n : ℕ) → d < length st → waiting (set st d (waiting_place n)) (d + 1) ≡ n ∷ waiting st d
-waiting_push st d n h =
-    let e : d + 1 ≡ suc d = omega arith in
-    rw e (λ j. (get_or-set_same st d (waiting_place n) vacant h j).list ∷ waiting_below st d (waiting_place n) d (omega arith) j)
 
 above_less : (link n : ℕ) (ns : List ℕ) → link < n → Above n ns → Above link ns
 above_less link n [] h a = tt
@@ -32,10 +12,6 @@ above_less link n (k ∷ ns) h a = (let b = a.0 in omega arith, above_less link 
 module _ (ps : List Place) (m : ℕ) where
   pub stacked_push : (link n : ℕ) (ns : List ℕ) → link < n → 2 ≤ link → Unmet ps m link → Stacked ps m (n ∷ ns) → Stacked ps m (link ∷ n ∷ ns)
   stacked_push link n ns h low new s = (low, let b = s.1 in omega arith, new, (h, above_less link n ns h s.3), s)
-
-  -- as many wait as there are vertices, at most
-  pub stacked_few : (n : ℕ) (ns : List ℕ) → Stacked ps m (n ∷ ns) → length ns < length ps
-  stacked_few n ns s = let a = s.0 in let b = s.1 in omega arith
 
   module _ (n : ℕ) (few : m < length ps) (low : 2 ≤ n) (high : n ≤ length ps + 1) where
     pub stacked_pop : (ns : List ℕ) → Above n ns → Stacked ps m ns → Stacked (with_met ps m n) (suc m) ns
@@ -64,7 +40,6 @@ pub first_small : (ps : List Place) (m : ℕ) (ns : List ℕ) → Stacked ps m n
 first_small ps m [] s = omega arith
 first_small ps m (n ∷ ns) s = let b = s.1 in omega arith
 
-pub stacked_start : (ps : List Place) (list : ℕ) → list ≤ length ps + 1 → Stacked ps 0 (starting list)
-stacked_start ps zero h = tt
-stacked_start ps (suc zero) h = tt
-stacked_start ps (suc (suc k)) h = (omega arith, omega arith, λ j l e. omega arith, tt, tt)
+-- two places more
+pub waiting_push : (p q : Place) (n : ℕ) (frames once twice : List Place) → once ≡ p ∷ frames → q.list ≡ n → twice ≡ q ∷ once → waiting twice ≡ n ∷ p.list ∷ waiting frames
+waiting_push p q n frames once twice e f g = ap waiting g ∙ (λ i. f i ∷ waiting (e i))

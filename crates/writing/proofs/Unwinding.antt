@@ -18,7 +18,7 @@ use Rattle.ledger.proofs.Ends.{get_or_front, get_or_last, length_snoc}
 use Rattle.ledger.proofs.Rows.{both_ways, Known, known_held, listed_front, listed_get_or, position_below, get_or_position, number_list, lay_known, lay_knows, lay_new, lay_adds, known_laid, still_new}
 use Rattle.ledger.proofs.Drawn.{Pictured, pictured}
 use Rattle.writing.specs.Met.{list_at, met_numbers, Sparse, Unmet}
-use Rattle.writing.specs.Walks.{Passed, laying_all, starting}
+use Rattle.writing.specs.Walks.{Passed}
 
 -- what is read of a number is its vertex
 pub read_is : {S : Type 0} (vs : List (Vertex S)) (n : ℕ) (label : S) (low high : ℕ) → Some (label, low, high) ≡ option_map parts (look vs n) →
@@ -148,9 +148,3 @@ module _ {S : Type 0} (before : S → S → Bool) (order : Order before) (vs : L
         ap (λ t. met_lists vs ps m ++ t ∷ []) is ∙
         sym (itself_last before order (met_lists vs ps m) v.label (codes vs v.zero) (codes vs v.one) still (passed_known v.zero pz) (passed_known v.one po)) ∙
         ap (lay before (met_lists vs ps m)) (sym is)
-
--- a walk starts with the list alone
-pub starts_all : {S : Type 0} (before : S → S → Bool) (vs : List (Vertex S)) (list : ℕ) → laying_all before vs (starting list) [] ≡ lay before [] (codes vs list)
-starts_all before vs zero = refl
-starts_all before vs (suc zero) = refl
-starts_all before vs (suc (suc k)) = refl

@@ -1,21 +1,15 @@
 -- The walk that meets the vertices of a list: a means of the proofs.
-use Rattle.std.specs.Prelude.{◌≡◌, ℕ, zero, suc, ◌+◌, ◌-◌, ◌*◌, ◌<◌, ◌≤◌, Bool, ◌⊎◌, List, [], ◌∷◌, map, length, Some, None, Option}
+use Rattle.std.specs.Prelude.{◌≡◌, ℕ, ◌+◌, ◌-◌, ◌*◌, ◌<◌, ◌≤◌, Bool, ◌⊎◌, List, [], ◌∷◌, map, length, Some, None, Option}
 use Rattle.memory.specs.declared.work.Place.{Place}
 use Rattle.ledger.specs.declared.Vertex.{Vertex}
 use Rattle.ledger.specs.Lists.{Codes}
 use Rattle.ledger.specs.Diagrams.{look}
 use Rattle.ledger.specs.Ledger.{lay, codes}
-use Rattle.writing.specs.Met.{list_at, met_numbers, Sparse, Met, Unmet}
-use Rattle.writing.specs.declared.walk.Course.{Course}
-
--- a place on the stack
-abbrev pub waiting_place : ℕ → Place
-waiting_place n = record { state = 0; list = n; other = 0; number = 0; count = 0 }
+use Rattle.writing.specs.Met.{met_numbers, Sparse, Met, Unmet}
 
 -- the numbers that wait, the last first
-abbrev pub waiting : List Place → ℕ → List ℕ
-waiting ps zero = []
-waiting ps (suc d) = list_at ps d ∷ waiting ps d
+abbrev pub waiting : List Place → List ℕ
+waiting ps = map (λ (p : Place). p.list) ps
 
 abbrev pub Above : ℕ → List ℕ → Type 0
 Above n [] = Unit {0}
@@ -26,8 +20,8 @@ abbrev pub Stacked : List Place → ℕ → List ℕ → Type 0
 Stacked ps m [] = Unit {0}
 Stacked ps m (n ∷ ns) = (2 ≤ n) × (n + length ns ≤ length ps + 1) × Unmet ps m n × Above n ns × Stacked ps m ns
 
-abbrev pub Walking : List Place → List Place → Course → Type 0
-Walking seen stack c = (c.met ≤ length seen) × Sparse seen c.met × Stacked seen c.met (waiting stack c.depth)
+abbrev pub Walking : List Place → List ℕ → ℕ → Type 0
+Walking seen ns met = (met ≤ length seen) × Sparse seen met × Stacked seen met ns
 
 -- the first link that is not met
 abbrev pub NextBelow : List Place → ℕ → ℕ → Option ℕ → Type 0
@@ -47,16 +41,11 @@ abbrev pub first_of : List ℕ → ℕ
 first_of [] = 0
 first_of (n ∷ ns) = n
 
-abbrev pub last_waiting : List Place → ℕ → ℕ
-last_waiting ps d = first_of (waiting ps d)
+abbrev pub left : List Place → List ℕ → ℕ → ℕ
+left seen ns met = (length seen - met) * (length seen + 2) + first_of ns
 
-abbrev pub left : List Place → List Place → Course → ℕ
-left seen stack c = (length seen - c.met) * (length seen + 2) + last_waiting stack c.depth
-
-abbrev pub Turns : List Place → List Place → Course → Option Course → List Place → List Place → Type 0
-Turns seen stack c None seen_after stack_after = (c.depth ≡ 0) × (seen_after ≡ seen)
-Turns seen stack c (Some next) seen_after stack_after =
-    Walking seen_after stack_after next × (left seen_after stack_after next < left seen stack c)
+abbrev pub Turns : List Place → List ℕ → ℕ → List Place → List ℕ → ℕ → Type 0
+Turns seen ns met seen_after ns_after met_after = Walking seen_after ns_after met_after × (left seen_after ns_after met_after < left seen ns met)
 
 -- the lists of those that wait are laid down, the last first
 abbrev pub laying_all : {S : Type 0} → (S → S → Bool) → List (Vertex S) → List ℕ → List (Codes S) → List (Codes S)
@@ -64,18 +53,8 @@ laying_all before vs [] row = row
 laying_all before vs (n ∷ ns) row = laying_all before vs ns (lay before row (codes vs n))
 
 -- where a walk leads: to the row of the lists that are met, after those that wait are laid down
-abbrev pub target : {S : Type 0} → (S → S → Bool) → List (Vertex S) → List Place → List Place → Course → List (Codes S)
-target before vs seen stack c = laying_all before vs (waiting stack c.depth) (map (codes vs) (met_numbers seen c.met))
+abbrev pub target : {S : Type 0} → (S → S → Bool) → List (Vertex S) → List Place → List ℕ → ℕ → List (Codes S)
+target before vs seen ns met = laying_all before vs ns (map (codes vs) (met_numbers seen met))
 
-abbrev pub TurnsTo : {S : Type 0} → (S → S → Bool) → List (Vertex S) → List Place → List Place → Course → Option Course → List Place → List Place → Type 0
-TurnsTo before vs seen stack c None seen_after stack_after = Unit {0}
-TurnsTo before vs seen stack c (Some next) seen_after stack_after = target before vs seen_after stack_after next ≡ target before vs seen stack c
-
--- the list waits, if it is a vertex
-abbrev pub starting : ℕ → List ℕ
-starting zero = []
-starting (suc zero) = []
-starting (suc (suc k)) = suc (suc k) ∷ []
-
-abbrev pub Starts : ℕ → Course → List Place → Type 0
-Starts list c stack = (c.met ≡ 0) × (waiting stack c.depth ≡ starting list)
+abbrev pub TurnsTo : {S : Type 0} → (S → S → Bool) → List (Vertex S) → List Place → List ℕ → ℕ → List Place → List ℕ → ℕ → Type 0
+TurnsTo before vs seen ns met seen_after ns_after met_after = target before vs seen_after ns_after met_after ≡ target before vs seen ns met

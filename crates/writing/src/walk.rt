@@ -1,23 +1,27 @@
 // The walk from a list: a vertex's zero link, its one link, then the vertex itself, each vertex once. The vertices that
 // wait for their links lie on a stack in lent places; their numbers fall along it, so it is never deeper than there are
 // vertices.
-ghost use Rattle.std.specs.Prelude.{◌≡◌, ◌+◌, ◌-◌, ◌<◌, ◌≤◌, ◌≢◌, [], map, length, slice_set, MatchOption};
+ghost use Rattle.std.specs.Prelude.{◌≡◌, ◌+◌, ◌≤◌, [], ◌∷◌, map, length};
 ghost use Rattle.ledger.specs.Diagrams.{Formed, Sound};
 ghost use Rattle.ledger.specs.Ledger.{codes, lay};
-ghost use Rattle.writing.specs.Met.{list_at, met_numbers};
-ghost use Rattle.writing.specs.Walks.{waiting_place, NextBelow, NextLink, Walking, Turns, TurnsTo, Starts};
+ghost use Rattle.writing.specs.Met.{met_numbers};
+ghost use Rattle.writing.specs.Walks.{waiting, NextBelow, NextLink, Walking, Turns, TurnsTo};
 
 use crate::met::{Seen, meet};
 use memory::reading::read_vertex;
 use memory::shelf::Shelf;
+use memory::stack::Stack;
 use memory::work::Place;
 use symbols::Symbol;
 
-// How far a walk is: so many vertices are met, and so many wait.
-#[derive(Clone, Copy)]
-struct Course {
-    met: u32,
-    depth: u32,
+// The place of a vertex that waits.
+fn waiting_place(n: u32) -> Place
+    ensures { result.list ≡ n }
+{
+    Place {
+        list: n,
+        ..Place::default()
+    }
 }
 
 // The first link of a vertex that is not met yet, if there is one.
@@ -37,70 +41,32 @@ fn next_link<S: Symbol, B: Shelf<S>>(shelf: &B, n: u32, seen: &Seen) -> Option<u
     None
 }
 
-fn push(stack: &mut [Place], depth: u32, n: u32)
-    requires { depth < length stack.old }
-    ensures { stack.new ≡ slice_set stack.old depth (waiting_place n) }
-{
-    stack[depth as usize] = Place {
-        list: n,
-        ..Place::default()
-    };
-}
-
-// The number that waits last, if one waits.
-fn last_waiting(stack: &[Place], depth: u32) -> Option<u32>
-    requires { depth ≤ length stack.now }
-    ensures { MatchOption result (depth ≡ 0) (λ n. (depth ≢ 0) × (n ≡ list_at stack.now (depth - 1))) }
-{
-    stack[..depth as usize].last().map(|place| place.list)
-}
-
-// The last vertex that waits gives way to a link that is not met, or is met itself; nothing where none waits.
+// The vertex that waited last gives way to a link that is not met, or is met itself; answers how many are met then.
 fn turn<S: Symbol, B: Shelf<S>>(
     shelf: &B,
-    course: Course,
+    last: Place,
+    met: u32,
     seen: &mut [Place],
-    stack: &mut [Place],
-) -> Option<Course>
+    stack: &mut Stack,
+) -> u32
     requires size { length seen.old ≡ length (B.Shelf.vertices shelf.now) }
-    requires room { length seen.old ≤ length stack.old }
-    requires walking { Walking seen.old stack.old course }
-    ensures walking { Turns seen.old stack.old course result seen.new stack.new }
-    ensures value { Sound S.Symbol.before (B.Shelf.vertices shelf.now) → TurnsTo S.Symbol.before (B.Shelf.vertices shelf.now) seen.old stack.old course result seen.new stack.new }
+    requires room { length seen.old ≤ stack.old.room }
+    requires walking { Walking seen.old (waiting (last ∷ stack.old.frames)) met }
+    ensures walking { Turns seen.old (waiting (last ∷ stack.old.frames)) met seen.new (waiting stack.new.frames) result }
+    ensures value { Sound S.Symbol.before (B.Shelf.vertices shelf.now) → TurnsTo S.Symbol.before (B.Shelf.vertices shelf.now) seen.old (waiting (last ∷ stack.old.frames)) met seen.new (waiting stack.new.frames) result }
+    ensures room { stack.new.room ≡ stack.old.room }
 {
-    let last = last_waiting(stack, course.depth)?;
-    let met = Seen {
-        places: seen,
-        met: course.met,
-    };
-    match next_link(shelf, last, &met) {
+    match next_link(shelf, last.list, &Seen { places: seen, met }) {
         Some(link) => {
-            push(stack, course.depth, link);
-            Some(Course {
-                depth: course.depth + 1,
-                ..course
-            })
+            stack.push(last);
+            stack.push(waiting_place(link));
+            met
         }
         None => {
-            meet(seen, course.met, last);
-            Some(Course {
-                met: course.met + 1,
-                depth: course.depth - 1,
-            })
+            meet(seen, met, last.list);
+            met + 1
         }
     }
-}
-
-// The start of a walk: the list waits, if it is a vertex.
-fn start(list: u32, stack: &mut [Place]) -> Course
-    requires { list ≤ length stack.old + 1 }
-    ensures { Starts list result stack.new }
-{
-    if list < 2 {
-        return Course { met: 0, depth: 0 };
-    }
-    push(stack, 0, list);
-    Course { met: 0, depth: 1 }
 }
 
 // Meets the vertices that are reached from the list.
@@ -116,12 +82,13 @@ pub(crate) fn walk<'a, S: Symbol, B: Shelf<S>>(
     ensures size { length result.places.now ≡ length (B.Shelf.vertices shelf.now) }
     ensures value { Sound S.Symbol.before (B.Shelf.vertices shelf.now) → map (codes (B.Shelf.vertices shelf.now)) (met_numbers result.places.now result.met) ≡ lay S.Symbol.before [] (codes (B.Shelf.vertices shelf.now) list) }
 {
-    let mut course = start(list, stack);
-    while let Some(next) = turn(shelf, course, seen, stack) {
-        course = next;
+    let mut stack = Stack::new(stack);
+    if list >= 2 {
+        stack.push(waiting_place(list));
     }
-    Seen {
-        places: seen,
-        met: course.met,
+    let mut met = 0;
+    while let Some(last) = stack.pop() {
+        met = turn(shelf, last, met, seen, &mut stack);
     }
+    Seen { places: seen, met }
 }

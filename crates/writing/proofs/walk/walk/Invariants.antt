@@ -1,14 +1,14 @@
-use Rattle.std.proofs.Common.{◌≡◌, []}
+use Rattle.std.proofs.Common.{◌≡◌, ◌≤◌, [], length}
 use Rattle.ledger.specs.Diagrams.{Sound}
 use Rattle.ledger.specs.Ledger.{codes, lay}
-use Rattle.writing.specs.Walks.{Walking, target, left}
+use Rattle.writing.specs.Walks.{waiting, Walking, target, left}
 use Rattle.writing.proofs.walk.walk.Given as goal
 
-abbrev pub invariant-loop-next : goal.invariant-loop-next
-invariant-loop-next g l =
-    Walking l.seen l.stack l.course ×
+abbrev pub invariant-loop-last : goal.invariant-loop-last
+invariant-loop-last g l =
+    (length l.seen ≤ l.stack.room) × Walking l.seen (waiting l.stack.frames) l.met ×
     (Sound g.S.Symbol.before (g.B.Shelf.vertices l.shelf) →
-    target g.S.Symbol.before (g.B.Shelf.vertices l.shelf) l.seen l.stack l.course ≡ lay g.S.Symbol.before [] (codes (g.B.Shelf.vertices l.shelf) l.list))
+    target g.S.Symbol.before (g.B.Shelf.vertices l.shelf) l.seen (waiting l.stack.frames) l.met ≡ lay g.S.Symbol.before [] (codes (g.B.Shelf.vertices l.shelf) l.list))
 
-abbrev pub decreases-loop-next : goal.decreases-loop-next
-decreases-loop-next g l = left l.seen l.stack l.course
+abbrev pub decreases-loop-last : goal.decreases-loop-last
+decreases-loop-last g l = left l.seen (waiting l.stack.frames) l.met
