@@ -9,7 +9,7 @@ ghost use Rattle.joining.specs.Frames.{waiting};
 ghost use Rattle.joining.specs.Walks.{Fits, Nearer, Goes, Turns, Coupled, Walks};
 ghost use Rattle.joining.specs.declared.turns.Turn.TheVariants.{Meet, Answer};
 
-use crate::frames::{Frame, Stage};
+use crate::frames::Frame;
 use crate::pairs::{Pair, question, shortcut, take_apart};
 use crate::rule::Rule;
 use memory::recall::RecallTable;
@@ -67,10 +67,7 @@ impl<'s, 'r, 'w, S: Symbol, B: Shelf<S>, R: RecallTable> Walk<'s, 'r, 'w, S, B, 
         let Some(split) = take_apart(self.shelf, pair) else {
             return Turn::Answer(0);
         };
-        self.stack.push(Place::from(Frame {
-            pair,
-            stage: Stage::Outer,
-        }));
+        self.stack.push(Place::from(Frame { pair, outer: None }));
         Turn::Meet(split.outer)
     }
 
@@ -90,15 +87,15 @@ impl<'s, 'r, 'w, S: Symbol, B: Shelf<S>, R: RecallTable> Walk<'s, 'r, 'w, S, B, 
         let Some(split) = take_apart(self.shelf, frame.pair) else {
             return Ok(Turn::Answer(0));
         };
-        match frame.stage {
-            Stage::Outer => {
+        match frame.outer {
+            None => {
                 self.stack.push(Place::from(Frame {
                     pair: frame.pair,
-                    stage: Stage::Inner(n),
+                    outer: Some(n),
                 }));
                 Ok(Turn::Meet(split.inner))
             }
-            Stage::Inner(zero) => {
+            Some(zero) => {
                 let number = couple(self.shelf, split.label, zero, n)?;
                 self.recall.tell(question(self.rule, frame.pair), number);
                 Ok(Turn::Answer(number))
@@ -118,6 +115,7 @@ impl<'s, 'r, 'w, S: Symbol, B: Shelf<S>, R: RecallTable> Walk<'s, 'r, 'w, S, B, 
         ensures size { B.Shelf.capacity self.new.shelf.now ≡ B.Shelf.capacity self.old.shelf.now }
     {
         let mut turn = Turn::Meet(pair);
+        // A turn is a value: what waits lies in lent places, which can hold no closure.
         loop {
             turn = match turn {
                 Turn::Meet(pair) => self.meet(pair),
