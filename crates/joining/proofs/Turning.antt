@@ -1,5 +1,5 @@
 -- What each turn of the walk does to what the walk stands for.
-use Rattle.std.proofs.Common.{◌≡◌, ℕ, ◌<◌, Bool, ◌≢◌, ◌⊎◌, List, [], ◌∷◌, ◌++◌, length, Some, None, Ok, Err, Option, Result, sym, refl, ap, ◌∙◌, subst, inl, inr, append_assoc, append-nil, arith}
+use Rattle.std.proofs.Common.{◌≡◌, ℕ, ◌<◌, Bool, ◌≢◌, ◌⊎◌, List, [], ◌∷◌, ◌++◌, length, Some, None, Ok, Err, Option, Result, MatchOption, sym, refl, ap, ◌∙◌, subst, inl, inr, append_assoc, append-nil, arith}
 use mathlib.Core.Path.{subst⁻¹}
 use Rattle.symbols.specs.Order.{Order}
 use Rattle.ledger.specs.declared.Vertex.{Vertex}
@@ -15,7 +15,7 @@ use Rattle.memory.specs.declared.recall.Question.{Question}
 use Rattle.memory.specs.declared.shelf.Full.{Full}
 use Rattle.memory.specs.Tables.{Told}
 use Rattle.joining.specs.Recalled.{Right, RightEntry}
-use Rattle.joining.specs.Pairs.{asked, joint, Settled, apart}
+use Rattle.joining.specs.Pairs.{asked, joint, Settled, Settles, apart}
 use Rattle.joining.specs.Walks.{Waits, Held, Stack, Running, Coupled}
 use Rattle.joining.specs.declared.pairs.Pair.{Pair}
 use Rattle.joining.specs.declared.pairs.Split.{Split}
@@ -26,6 +26,11 @@ use Rattle.joining.proofs.Splits.{Parted, parted_is, parted_some}
 use Rattle.joining.proofs.Growing.{good_front, apart_front, joint_front, right_front, joint_proper, settled_good, settled_is}
 use Rattle.joining.proofs.Coupling.{Couples, couples}
 use Rattle.joining.proofs.Stacks.{stack_longer}
+
+-- neither settled nor recalled
+pub settles_none : (rule : ℕ) (pair : Pair) (P : Type 0) (r : Option ℕ) → Settles rule pair r → MatchOption r P (λ x. None ≡ Some x) → (0 < pair.first) × (0 < pair.second) × (pair.first ≢ pair.second)
+settles_none rule pair P (Some m) s e = cc
+settles_none rule pair P None s e = s
 
 module _ {S : Type 0} (before : S → S → Bool) (order : Order before) (old : List (Vertex S)) (rule : ℕ) (goal : Codes S) (vs : List (Vertex S)) (table : Question → Option ℕ) (frames : List Frame) where
   -- the old vertices are the first of these
@@ -68,14 +73,19 @@ module _ {S : Type 0} (before : S → S → Bool) (order : Order before) (old : 
           );
         }
 
-    pub turn_settled : (n : ℕ) → Settled rule pair n → Known n
+    turn_settled : (n : ℕ) → Settled rule pair n → Known n
     turn_settled n s =
         let gf = old_good R.sound R.more R.extends pair.first first in
         let gs = old_good R.sound R.more R.extends pair.second second in
         known n (settled_good before order vs R.sound rule pair gf gs n s) (settled_is before order vs R.sound rule pair gf gs n s)
 
-    pub turn_recalled : (n : ℕ) → table (asked rule pair) ≡ Some n → Known n
+    turn_recalled : (n : ℕ) → table (asked rule pair) ≡ Some n → Known n
     turn_recalled n e = let r = R.right (asked rule pair) n e in known n r.answer r.is
+
+    -- settled, or else recalled
+    pub turn_known : (n : ℕ) (P : Type 0) (r : Option ℕ) → Settles rule pair r → MatchOption r P (λ x. Some n ≡ Some x) → (P → table (asked rule pair) ≡ Some n) → Known n
+    turn_known n P (Some m) s e told = subst Known (some_same e refl) (turn_settled m s)
+    turn_known n P None s e told = turn_recalled n (told e)
 
     module _ (first_some : 0 < pair.first) (second_some : 0 < pair.second) where
       pub turn_never : pair.first ≢ pair.second → apart before vs pair ≡ None → ⊥

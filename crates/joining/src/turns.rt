@@ -57,10 +57,8 @@ impl<'s, 'r, 'w, S: Symbol, B: Shelf<S>, R: RecallTable> Walk<'s, 'r, 'w, S, B, 
         ensures nearer { Nearer self.old.stack.room (waiting self.old.stack) (Meet pair) self.new.stack.room (waiting self.new.stack) result }
         ensures goes { Goes S.Symbol.before (number_of self.old.rule) (B.Shelf.vertices self.old.shelf.now) (R.RecallTable.table self.old.recall.now) (waiting self.old.stack) (Meet pair) (waiting self.new.stack) result }
     {
-        if let Some(n) = shortcut(self.rule, pair) {
-            return Turn::Answer(n);
-        }
-        if let Some(n) = self.recall.recall(question(self.rule, pair)) {
+        let asked = question(self.rule, pair);
+        if let Some(n) = shortcut(self.rule, pair).or_else(|| self.recall.recall(asked)) {
             return Turn::Answer(n);
         }
         // two numbers that are neither 0 nor equal can be taken apart, unless one of them is no good number
