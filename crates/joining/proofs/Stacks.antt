@@ -1,5 +1,5 @@
 -- The frames that wait: what they wait for fits into the goal.
-use Rattle.std.proofs.Common.{◌≡◌, ℕ, ◌≤◌, Bool, List, [], ◌∷◌, length, map, ap, ◌∙◌, ap₂, arith}
+use Rattle.std.proofs.Common.{◌≡◌, ℕ, ◌≤◌, Bool, List, [], ◌∷◌, length, map, Some, None, Option, ap, ◌∙◌, ap₂, arith}
 use Rattle.symbols.specs.Order.{Order}
 use Rattle.ledger.specs.declared.Vertex.{Vertex}
 use Rattle.ledger.specs.Lists.{Codes}
@@ -14,8 +14,6 @@ use Rattle.joining.specs.Pairs.{joint}
 use Rattle.joining.specs.Walks.{Waits, Held, Stack}
 use Rattle.joining.specs.declared.pairs.Split.{Split}
 use Rattle.joining.specs.declared.frames.Frame.{Frame}
-use Rattle.joining.specs.declared.frames.Stage.{Stage}
-use Rattle.joining.specs.declared.frames.Stage.TheVariants.{Outer, Inner}
 use Rattle.joining.proofs.Splits.{parted_is}
 use Rattle.joining.proofs.Coupling.{made_longer, outer_longer}
 
@@ -26,13 +24,13 @@ module _ {S : Type 0} (before : S → S → Bool) (order : Order before) (old : 
         joint before old rule f.pair ≡ make h.part.label (joint before old rule h.part.outer) (joint before old rule h.part.inner)
     held_is f vs t h = (parted_is before order old sound (takes rule) f.pair h.first h.second h.first_some h.second_some h.part h.is).is
 
-    waits_longer : (part : Split S) (base : List (Vertex S)) → Sound before base → (stage : Stage) (vs : List (Vertex S)) (t : Codes S) → Waits before old rule part base stage vs t →
+    waits_longer : (part : Split S) (base : List (Vertex S)) → Sound before base → (stage : Option ℕ) (vs : List (Vertex S)) (t : Codes S) → Waits before old rule part base stage vs t →
         length (lay before (lists vs) t) ≤ length (lay before (lists base) (make part.label (joint before old rule part.outer) (joint before old rule part.inner)))
-    waits_longer part base sb Outer vs t w =
+    waits_longer part base sb None vs t w =
         let l = outer_longer before order (pictured before order base sb).ledger part.label (joint before old rule part.outer) (joint before old rule part.inner) in
         let e = ap₂ (λ (us : List (Vertex S)) (u : Codes S). length (lay before (lists us) u)) w.0 w.1 in
         omega arith
-    waits_longer part base sb (Inner low) vs t w =
+    waits_longer part base sb (Some low) vs t w =
         let l = made_longer before order (pictured before order base sb).ledger part.label (joint before old rule part.outer) (joint before old rule part.inner) in
         let e = ap₂ (λ row (u : Codes S). length (lay before row u)) w.0.row w.1 in
         omega arith
@@ -46,7 +44,7 @@ module _ {S : Type 0} (before : S → S → Bool) (order : Order before) (old : 
         let h : Held before old rule f vs t = s.0 in
         let below = stack_longer fs h.base (joint before old rule f.pair) s.1 in
         let e = ap (λ (u : Codes S). length (lay before (lists h.base) u)) (held_is f vs t h) in
-        let w = waits_longer h.part h.base h.sound f.stage vs t h.waits in
+        let w = waits_longer h.part h.base h.sound f.outer vs t h.waits in
         omega arith
 
 -- a frame more

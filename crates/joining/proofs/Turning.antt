@@ -1,5 +1,5 @@
 -- What each turn of the walk does to what the walk stands for.
-use Rattle.std.proofs.Common.{◌≡◌, ℕ, ◌<◌, Bool, ◌≢◌, ◌⊎◌, List, [], ◌∷◌, ◌++◌, length, Some, None, Ok, Err, Option, Result, sym, refl, ap, ◌∙◌, subst, inl, inr, append_assoc, append-nil, arith}
+use Rattle.std.proofs.Common.{◌≡◌, ℕ, ◌<◌, Bool, ◌≢◌, ◌⊎◌, List, [], ◌∷◌, ◌++◌, length, Some, None, Ok, Err, Option, Result, MatchOption, sym, refl, ap, ◌∙◌, subst, inl, inr, append_assoc, append-nil, arith}
 use mathlib.Core.Path.{subst⁻¹}
 use Rattle.symbols.specs.Order.{Order}
 use Rattle.ledger.specs.declared.Vertex.{Vertex}
@@ -15,19 +15,22 @@ use Rattle.memory.specs.declared.recall.Question.{Question}
 use Rattle.memory.specs.declared.shelf.Full.{Full}
 use Rattle.memory.specs.Tables.{Told}
 use Rattle.joining.specs.Recalled.{Right, RightEntry}
-use Rattle.joining.specs.Pairs.{asked, joint, Settled, apart}
+use Rattle.joining.specs.Pairs.{asked, joint, Settled, Settles, apart}
 use Rattle.joining.specs.Walks.{Waits, Held, Stack, Running, Coupled}
 use Rattle.joining.specs.declared.pairs.Pair.{Pair}
 use Rattle.joining.specs.declared.pairs.Split.{Split}
 use Rattle.joining.specs.declared.frames.Frame.{Frame}
-use Rattle.joining.specs.declared.frames.Stage.{Stage}
-use Rattle.joining.specs.declared.frames.Stage.TheVariants.{Outer, Inner}
 use Rattle.joining.specs.declared.turns.Turn.{Turn}
 use Rattle.joining.specs.declared.turns.Turn.TheVariants.{Meet, Answer}
 use Rattle.joining.proofs.Splits.{Parted, parted_is, parted_some}
 use Rattle.joining.proofs.Growing.{good_front, apart_front, joint_front, right_front, joint_proper, settled_good, settled_is}
 use Rattle.joining.proofs.Coupling.{Couples, couples}
 use Rattle.joining.proofs.Stacks.{stack_longer}
+
+-- neither settled nor recalled
+pub settles_none : (rule : ℕ) (pair : Pair) (P : Type 0) (r : Option ℕ) → Settles rule pair r → MatchOption r P (λ x. None ≡ Some x) → (0 < pair.first) × (0 < pair.second) × (pair.first ≢ pair.second)
+settles_none rule pair P (Some m) s e = cc
+settles_none rule pair P None s e = s
 
 module _ {S : Type 0} (before : S → S → Bool) (order : Order before) (old : List (Vertex S)) (rule : ℕ) (goal : Codes S) (vs : List (Vertex S)) (table : Question → Option ℕ) (frames : List Frame) where
   -- the old vertices are the first of these
@@ -70,14 +73,19 @@ module _ {S : Type 0} (before : S → S → Bool) (order : Order before) (old : 
           );
         }
 
-    pub turn_settled : (n : ℕ) → Settled rule pair n → Known n
+    turn_settled : (n : ℕ) → Settled rule pair n → Known n
     turn_settled n s =
         let gf = old_good R.sound R.more R.extends pair.first first in
         let gs = old_good R.sound R.more R.extends pair.second second in
         known n (settled_good before order vs R.sound rule pair gf gs n s) (settled_is before order vs R.sound rule pair gf gs n s)
 
-    pub turn_recalled : (n : ℕ) → table (asked rule pair) ≡ Some n → Known n
+    turn_recalled : (n : ℕ) → table (asked rule pair) ≡ Some n → Known n
     turn_recalled n e = let r = R.right (asked rule pair) n e in known n r.answer r.is
+
+    -- settled, or else recalled
+    pub turn_known : (n : ℕ) (P : Type 0) (r : Option ℕ) → Settles rule pair r → MatchOption r P (λ x. Some n ≡ Some x) → (P → table (asked rule pair) ≡ Some n) → Known n
+    turn_known n P (Some m) s e told = subst Known (some_same e refl) (turn_settled m s)
+    turn_known n P None s e told = turn_recalled n (told e)
 
     module _ (first_some : 0 < pair.first) (second_some : 0 < pair.second) where
       pub turn_never : pair.first ≢ pair.second → apart before vs pair ≡ None → ⊥
@@ -85,12 +93,12 @@ module _ {S : Type 0} (before : S → S → Bool) (order : Order before) (old : 
           parted_some before order old (old_sound R.sound R.more R.extends) (takes rule) pair first second first_some second_some ne
           (sym (old_apart R.sound R.more R.extends pair first second) ∙ e)
 
-      pub turn_push : (s : Split S) → apart before vs pair ≡ Some s → (after : List Frame) → after ≡ record { pair = pair; stage = Outer } ∷ frames → Running before old rule goal vs table after (Meet s.outer)
+      pub turn_push : (s : Split S) → apart before vs pair ≡ Some s → (after : List Frame) → after ≡ record { pair = pair; outer = None } ∷ frames → Running before old rule goal vs table after (Meet s.outer)
       turn_push s e after top =
           let is = sym (old_apart R.sound R.more R.extends pair first second) ∙ e in
           let p : Parted before order old (old_sound R.sound R.more R.extends) (takes rule) pair s =
           parted_is before order old (old_sound R.sound R.more R.extends) (takes rule) pair first second first_some second_some s is in
-          let f : Frame = record { pair = pair; stage = Outer } in
+          let f : Frame = record { pair = pair; outer = None } in
           let h : Held before old rule f vs (joint before old rule s.outer) = record {
             first = first;
             second = second;
@@ -132,14 +140,14 @@ module _ {S : Type 0} (before : S → S → Bool) (order : Order before) (old : 
           (sym same_apart ∙ e)
 
       -- on to the inner pair
-      pub turn_inner : f.stage ≡ Outer → (after : List Frame) → after ≡ record { pair = f.pair; stage = Inner n } ∷ frames → Running before old rule goal vs table after (Meet s.inner)
+      pub turn_inner : f.outer ≡ None → (after : List Frame) → after ≡ record { pair = f.pair; outer = Some n } ∷ frames → Running before old rule goal vs table after (Meet s.inner)
       turn_inner stage after top =
           let w : (R.stands.0 ≡ over.0.base) × (R.stands.1 ≡ joint before old rule over.0.part.outer) =
-          subst (λ (x : Stage). Waits before old rule over.0.part over.0.base x R.stands.0 R.stands.1) stage over.0.waits in
+          subst (λ (x : Option ℕ). Waits before old rule over.0.part over.0.base x R.stands.0 R.stands.1) stage over.0.waits in
           let t_is : R.stands.1 ≡ joint before old rule s.outer = w.1 ∙ ap (λ (x : Split S). joint before old rule x.outer) part_is in
           let laid : Laid before over.0.base (joint before old rule s.outer) vs n =
           subst (λ (us : List (Vertex S)). Laid before us (joint before old rule s.outer) vs n) w.0 (subst (λ (t : Codes S). Laid before R.stands.0 t vs n) t_is come) in
-          let g : Frame = record { pair = f.pair; stage = Inner n } in
+          let g : Frame = record { pair = f.pair; outer = Some n } in
           let h : Held before old rule g vs (joint before old rule s.inner) = record {
             first = over.0.first;
             second = over.0.second;
@@ -161,14 +169,14 @@ module _ {S : Type 0} (before : S → S → Bool) (order : Order before) (old : 
           })
 
       -- the frame's own vertex
-      module _ (low capacity : ℕ) (stage : f.stage ≡ Inner low) (ws : List (Vertex S)) where
+      module _ (low capacity : ℕ) (stage : f.outer ≡ Some low) (ws : List (Vertex S)) where
         made_is : joint before old rule f.pair ≡ make s.label (joint before old rule s.outer) (joint before old rule s.inner)
         made_is = parted.is
 
         outcome : (r : Result ℕ Full) → Coupled capacity vs s.label low n r ws → Couples before order over.0.base (joint before old rule f.pair) capacity vs r ws
         outcome r c =
             let w : Laid before over.0.base (joint before old rule over.0.part.outer) R.stands.0 low × (R.stands.1 ≡ joint before old rule over.0.part.inner) =
-            subst (λ (x : Stage). Waits before old rule over.0.part over.0.base x R.stands.0 R.stands.1) stage over.0.waits in
+            subst (λ (x : Option ℕ). Waits before old rule over.0.part over.0.base x R.stands.0 R.stands.1) stage over.0.waits in
             let outer : Laid before over.0.base (joint before old rule s.outer) R.stands.0 low =
             subst (λ (x : Split S). Laid before over.0.base (joint before old rule x.outer) R.stands.0 low) part_is w.0 in
             let inner : Laid before R.stands.0 (joint before old rule s.inner) vs n =

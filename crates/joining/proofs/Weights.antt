@@ -1,11 +1,10 @@
 -- Room and turns left: every turn keeps to its frames, and brings the walk nearer to its end.
-use Rattle.std.proofs.Common.{◌≡◌, ℕ, zero, suc, ◌+◌, ◌-◌, ◌<◌, ◌≤◌, List, ◌∷◌, refl, ap, subst, arith}
+use Rattle.std.proofs.Common.{◌≡◌, ℕ, zero, suc, ◌+◌, ◌-◌, ◌<◌, ◌≤◌, List, ◌∷◌, Some, None, refl, ap, subst, arith}
 use mathlib.Core.Path.{subst⁻¹}
 use Rattle.joining.specs.Pairs.{sum}
 use Rattle.joining.specs.Walks.{Fits, weigh, stage_cost, frame_cost, Nearer}
 use Rattle.joining.specs.declared.pairs.Pair.{Pair}
 use Rattle.joining.specs.declared.frames.Frame.{Frame}
-use Rattle.joining.specs.declared.frames.Stage.TheVariants.{Outer, Inner}
 use Rattle.joining.specs.declared.turns.Turn.TheVariants.{Meet, Answer}
 
 -- turns left for a pair
@@ -47,7 +46,7 @@ module _ (room : ℕ) (frames : List Frame) where
         record { same = refl; fits = record { reaches = omega arith; deep = fits.deep }; falls = omega arith }
 
     -- a frame is put on for the pair
-    pub nearer_push : (outer : Pair) → sum outer < sum pair → (places : ℕ) (after : List Frame) → places ≡ room → after ≡ record { pair = pair; stage = Outer } ∷ frames →
+    pub nearer_push : (outer : Pair) → sum outer < sum pair → (places : ℕ) (after : List Frame) → places ≡ room → after ≡ record { pair = pair; outer = None } ∷ frames →
         Nearer room frames (Meet pair) places after (Meet outer)
     nearer_push outer low places after same is =
         let r = fits.reaches in
@@ -58,7 +57,7 @@ module _ (room : ℕ) (frames : List Frame) where
 
   module _ (f : Frame) (n : ℕ) (fits : Fits room (f ∷ frames) (Answer n)) where
     -- the top frame goes on to its inner pair
-    pub nearer_inner : (inner : Pair) → f.stage ≡ Outer → sum inner < sum f.pair → (places : ℕ) (after : List Frame) → places ≡ room → after ≡ record { pair = f.pair; stage = Inner n } ∷ frames →
+    pub nearer_inner : (inner : Pair) → f.outer ≡ None → sum inner < sum f.pair → (places : ℕ) (after : List Frame) → places ≡ room → after ≡ record { pair = f.pair; outer = Some n } ∷ frames →
         Nearer room (f ∷ frames) (Answer n) places after (Meet inner)
     nearer_inner inner outer low places after same is =
         let d = fits.deep.0 in

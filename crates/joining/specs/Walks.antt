@@ -1,5 +1,5 @@
 -- The walk over pairs: what waits in the frames, what it stands for, and how many turns are left.
-use Rattle.std.specs.Prelude.{◌≡◌, ℕ, zero, suc, ◌+◌, ◌-◌, ◌<◌, ◌≤◌, Bool, ◌≢◌, ◌⊎◌, List, [], ◌∷◌, ◌++◌, length, Some, Ok, Err, Option, Result}
+use Rattle.std.specs.Prelude.{◌≡◌, ℕ, zero, suc, ◌+◌, ◌-◌, ◌<◌, ◌≤◌, Bool, ◌≢◌, ◌⊎◌, List, [], ◌∷◌, ◌++◌, length, Some, None, Ok, Err, Option, Result}
 use Rattle.ledger.specs.declared.Vertex.{Vertex}
 use Rattle.ledger.specs.Lists.{Codes}
 use Rattle.ledger.specs.Diagrams.{Good, Sound}
@@ -13,8 +13,6 @@ use Rattle.joining.specs.Pairs.{sum, joint, apart}
 use Rattle.joining.specs.declared.pairs.Pair.{Pair}
 use Rattle.joining.specs.declared.pairs.Split.{Split}
 use Rattle.joining.specs.declared.frames.Frame.{Frame}
-use Rattle.joining.specs.declared.frames.Stage.{Stage}
-use Rattle.joining.specs.declared.frames.Stage.TheVariants.{Outer, Inner}
 use Rattle.joining.specs.declared.turns.Turn.{Turn}
 use Rattle.joining.specs.declared.turns.Turn.TheVariants.{Meet, Answer}
 
@@ -36,12 +34,12 @@ unfoldable pub weigh : ℕ → ℕ
 weigh zero = 1
 weigh (suc n) = weigh n + weigh n + 3
 
-abbrev pub stage_cost : ℕ → Stage → ℕ
-stage_cost n Outer = 2 + weigh (n - 1)
-stage_cost n (Inner low) = 1
+abbrev pub stage_cost : ℕ → Option ℕ → ℕ
+stage_cost n None = 2 + weigh (n - 1)
+stage_cost n (Some low) = 1
 
 abbrev pub frame_cost : Frame → ℕ
-frame_cost f = stage_cost (sum f.pair) f.stage
+frame_cost f = stage_cost (sum f.pair) f.outer
 
 abbrev pub stack_cost : List Frame → ℕ
 stack_cost [] = 0
@@ -61,9 +59,9 @@ pub record Nearer (room : ℕ) (frames : List Frame) (turn : Turn) (places : ℕ
   pub falls : cost after next < cost frames turn
 
 -- what a frame waits for, its vertices as they were when its pair was met (base): the list t, laid down after vs
-abbrev pub Waits : {S : Type 0} → (S → S → Bool) → List (Vertex S) → ℕ → Split S → List (Vertex S) → Stage → List (Vertex S) → Codes S → Type 0
-Waits before old rule part base Outer vs t = (vs ≡ base) × (t ≡ joint before old rule part.outer)
-Waits before old rule part base (Inner low) vs t = Laid before base (joint before old rule part.outer) vs low × (t ≡ joint before old rule part.inner)
+abbrev pub Waits : {S : Type 0} → (S → S → Bool) → List (Vertex S) → ℕ → Split S → List (Vertex S) → Option ℕ → List (Vertex S) → Codes S → Type 0
+Waits before old rule part base None vs t = (vs ≡ base) × (t ≡ joint before old rule part.outer)
+Waits before old rule part base (Some low) vs t = Laid before base (joint before old rule part.outer) vs low × (t ≡ joint before old rule part.inner)
 
 pub record Held {S : Type 0} (before : S → S → Bool) (old : List (Vertex S)) (rule : ℕ) (f : Frame) (vs : List (Vertex S)) (t : Codes S) : Type 0 where
   pub first : Good old f.pair.first
@@ -74,7 +72,7 @@ pub record Held {S : Type 0} (before : S → S → Bool) (old : List (Vertex S))
   pub sound : Sound before base
   pub part : Split S
   pub is : apart before old f.pair ≡ Some part
-  pub waits : Waits before old rule part base f.stage vs t
+  pub waits : Waits before old rule part base f.outer vs t
 
 -- the frames, the top one first: laying t down after vs gives the top one what it waits for, and in the end the goal,
 -- laid down after the old vertices

@@ -6,52 +6,38 @@ ghost use Rattle.joining.specs.Frames.{frame_of};
 use crate::pairs::Pair;
 use memory::work::Place;
 
-// The outer lists are being joined; or the outer lists have this number, and the inner lists are being joined.
-#[derive(Clone, Copy)]
-pub enum Stage {
-    Outer,
-    Inner(u32),
-}
-
 #[derive(Clone, Copy)]
 pub struct Frame {
     pub pair: Pair,
-    pub stage: Stage,
+    // the number of the outer lists' join, once there is one
+    pub outer: Option<u32>,
 }
 
 impl From<Place> for Frame {
     ghost from_gives = { λ place frame. frame ≡ frame_of place };
 
     fn from(place: Place) -> Frame {
-        let stage = if place.state == 0 {
-            Stage::Outer
-        } else {
-            Stage::Inner(place.number)
-        };
         Frame {
             pair: Pair {
                 first: place.list,
                 second: place.other,
             },
-            stage,
+            outer: (place.state != 0).then_some(place.number),
         }
     }
 }
 
+// Which stage it is at stands as a plain number, as all that a place keeps.
 impl From<Frame> for Place {
     ghost from_gives = { λ frame place. frame_of place ≡ frame };
 
     fn from(frame: Frame) -> Place {
         let Pair { first, second } = frame.pair;
-        let (state, number) = match frame.stage {
-            Stage::Outer => (0, 0),
-            Stage::Inner(zero) => (1, zero),
-        };
         Place {
-            state,
+            state: u32::from(frame.outer.is_some()),
             list: first,
             other: second,
-            number,
+            number: frame.outer.unwrap_or(0),
             ..Place::default()
         }
     }

@@ -9,7 +9,7 @@ ghost use Rattle.joining.specs.Frames.{waiting};
 ghost use Rattle.joining.specs.Walks.{Fits, Nearer, Goes, Turns, Coupled, Walks};
 ghost use Rattle.joining.specs.declared.turns.Turn.TheVariants.{Meet, Answer};
 
-use crate::frames::{Frame, Stage};
+use crate::frames::Frame;
 use crate::pairs::{Pair, question, shortcut, take_apart};
 use crate::rule::Rule;
 use memory::recall::RecallTable;
@@ -57,20 +57,15 @@ impl<'s, 'r, 'w, S: Symbol, B: Shelf<S>, R: RecallTable> Walk<'s, 'r, 'w, S, B, 
         ensures nearer { Nearer self.old.stack.room (waiting self.old.stack) (Meet pair) self.new.stack.room (waiting self.new.stack) result }
         ensures goes { Goes S.Symbol.before (number_of self.old.rule) (B.Shelf.vertices self.old.shelf.now) (R.RecallTable.table self.old.recall.now) (waiting self.old.stack) (Meet pair) (waiting self.new.stack) result }
     {
-        if let Some(n) = shortcut(self.rule, pair) {
-            return Turn::Answer(n);
-        }
-        if let Some(n) = self.recall.recall(question(self.rule, pair)) {
+        let asked = question(self.rule, pair);
+        if let Some(n) = shortcut(self.rule, pair).or_else(|| self.recall.recall(asked)) {
             return Turn::Answer(n);
         }
         // two numbers that are neither 0 nor equal can be taken apart, unless one of them is no good number
         let Some(split) = take_apart(self.shelf, pair) else {
             return Turn::Answer(0);
         };
-        self.stack.push(Place::from(Frame {
-            pair,
-            stage: Stage::Outer,
-        }));
+        self.stack.push(Place::from(Frame { pair, outer: None }));
         Turn::Meet(split.outer)
     }
 
@@ -90,15 +85,15 @@ impl<'s, 'r, 'w, S: Symbol, B: Shelf<S>, R: RecallTable> Walk<'s, 'r, 'w, S, B, 
         let Some(split) = take_apart(self.shelf, frame.pair) else {
             return Ok(Turn::Answer(0));
         };
-        match frame.stage {
-            Stage::Outer => {
+        match frame.outer {
+            None => {
                 self.stack.push(Place::from(Frame {
                     pair: frame.pair,
-                    stage: Stage::Inner(n),
+                    outer: Some(n),
                 }));
                 Ok(Turn::Meet(split.inner))
             }
-            Stage::Inner(zero) => {
+            Some(zero) => {
                 let number = couple(self.shelf, split.label, zero, n)?;
                 self.recall.tell(question(self.rule, frame.pair), number);
                 Ok(Turn::Answer(number))
@@ -118,6 +113,7 @@ impl<'s, 'r, 'w, S: Symbol, B: Shelf<S>, R: RecallTable> Walk<'s, 'r, 'w, S, B, 
         ensures size { B.Shelf.capacity self.new.shelf.now ≡ B.Shelf.capacity self.old.shelf.now }
     {
         let mut turn = Turn::Meet(pair);
+        // A turn is a value: what waits lies in lent places, which can hold no closure.
         loop {
             turn = match turn {
                 Turn::Meet(pair) => self.meet(pair),
