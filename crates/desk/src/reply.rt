@@ -2,7 +2,7 @@
 ghost use Rattle.desk.specs.Replies.{line_refusal, picked, reply_text, Put};
 ghost use Rattle.desk.specs.declared.reply.LineFault.TheVariants.{Text as text_fault, Store as store_fault};
 ghost use Rattle.std.specs.Prelude.{◌≡◌, take, Ok};
-ghost use Rattle.commands.specs.Answers.{answer_text, ended};
+ghost use Rattle.commands.specs.Answers.{ended};
 
 use commands::answer::{Answer, write_answer};
 use store::fault::Fault;
@@ -60,21 +60,6 @@ impl From<LineFault> for Refusal {
     }
 }
 
-// The answer of a line, where `text` is the text of the code if it is one. A function, since the answer borrows: made and passed
-// on at once it is not covered by the proof of borrows.
-fn answer_of<'a>(reply: Result<Reply, LineFault>, text: &'a [u8]) -> Answer<'a>
-    ensures { answer_text result ≡ reply_text text.now reply }
-{
-    match reply {
-        Ok(Reply::List(n)) => Answer::Number(u64::from(n)),
-        Ok(Reply::Count(n)) => Answer::Number(n),
-        Ok(Reply::Truth(true)) => Answer::Yes,
-        Ok(Reply::Truth(false)) => Answer::No,
-        Ok(Reply::Picked(_)) => Answer::Code(text),
-        Err(fault) => Answer::Refused(Refusal::from(fault).number),
-    }
-}
-
 // Writes the text of the code of this length at the start of `code`, as a line, to the start of `out`; its text is made in
 // `text` first.
 fn write_picked<S: TextSymbol>(
@@ -101,7 +86,11 @@ pub fn write_reply<S: TextSymbol>(
     ensures { Put (reply_text (S.TextSymbol.text (picked code.now reply)) reply) text.old out.old result out.new }
 {
     match reply {
+        Ok(Reply::List(n)) => write_answer(Answer::Number(u64::from(n)), out),
+        Ok(Reply::Count(n)) => write_answer(Answer::Number(n), out),
+        Ok(Reply::Truth(true)) => write_answer(Answer::Yes, out),
+        Ok(Reply::Truth(false)) => write_answer(Answer::No, out),
         Ok(Reply::Picked(length)) => write_picked(length, code, text, out),
-        _ => write_answer(answer_of(reply, &[]), out),
+        Err(fault) => write_answer(Answer::Refused(Refusal::from(fault).number), out),
     }
 }

@@ -9,6 +9,10 @@ use Rattle.counting.specs.Tallies.{Counted}
 use Rattle.store.specs.declared.fault.Fault.{Fault}
 use Rattle.store.specs.State.{check, answered, Checked}
 
+-- a check has passed
+abbrev pub Passed : Option Fault → Type 0
+Passed faults = ◌≡◌ {A = Result (Unit {0}) Fault} (Ok tt) (answered faults tt)
+
 -- what a check that was passed says: it did not fail, and those behind it answer
 pub passed : (fails : Bool) (fault : Fault) → ◌≡◌ {A = Result (Unit {0}) Fault} (Ok tt) (answered (check fails fault None) tt) →
     (fails ≡ false) × ((behind : Option Fault) → check fails fault behind ≡ behind)

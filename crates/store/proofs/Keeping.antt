@@ -2,7 +2,6 @@
 use Rattle.std.proofs.Common.{◌≡◌, ℕ, suc, ◌+◌, ◌<◌, ◌≤◌, Bool, true, false, ltb, List, [], ◌∷◌, length, get_or, drop, Some, None, Ok, Err, Option, Result, sym, refl, ap, ◌∙◌, add-one, arith}
 use mathlib.Core.List.{Memᴰ}
 use Rattle.std.proofs.lemmas.List.{drop_more, drop_all}
-use Rattle.std.proofs.lemmas.Bool.{le-ltb, lt-ltb}
 use Rattle.symbols.specs.Wire.{Travel}
 use Rattle.ledger.specs.declared.Vertex.{Vertex}
 use Rattle.ledger.specs.Diagrams.{Good}
@@ -14,7 +13,7 @@ use Rattle.store.specs.declared.fault.Fault.TheVariants.{NoSuchList}
 use Rattle.store.specs.State.{State, Forgotten, check, check_lists, check_work, answered}
 use Rattle.store.specs.Calls.{ClearsOut, ClearedOut}
 use Rattle.store.specs.Run.{Stands, clears_out}
-use Rattle.store.proofs.Checks.{good_list, then_comes, refuses}
+use Rattle.store.proofs.Checks.{Passed, passed, refused, good_list, then_comes, refuses}
 use Rattle.store.proofs.Standing.{passes}
 
 module _ {S : Type 0} (vs : List (Vertex S)) where
@@ -25,12 +24,14 @@ module _ {S : Type 0} (vs : List (Vertex S)) where
       let e : suc i ≡ i + 1 = sym (add-one i) in
       ap (λ (l : List ℕ). check_lists vs i l None) (drop_more ks i 0 h) ∙ ap (λ (j : ℕ). check (ltb (length vs + 1) (get_or ks i 0)) (NoSuchList i) (check_lists vs j (drop (i + 1) ks) None)) e
 
-  pub next_good : (ks : List ℕ) (i : ℕ) → i < length ks → get_or ks i 0 ≤ length vs + 1 →
+  -- it passes its check, or is refused by it
+  pub next_passes : (ks : List ℕ) (i : ℕ) → i < length ks → Passed (check_lists vs i (get_or ks i 0 ∷ []) None) →
       check_lists vs i (drop i ks) None ≡ check_lists vs (i + 1) (drop (i + 1) ks) None
-  next_good ks i h g = next ks i h ∙ ap (λ b. check b (NoSuchList i) (check_lists vs (i + 1) (drop (i + 1) ks) None)) (le-ltb (length vs + 1) (get_or ks i 0) g)
+  next_passes ks i h p = next ks i h ∙ (passed _ _ p).1 _
 
-  pub next_bad : (ks : List ℕ) (i : ℕ) → i < length ks → length vs + 1 < get_or ks i 0 → check_lists vs i (drop i ks) None ≡ Some (NoSuchList i)
-  next_bad ks i h g = next ks i h ∙ ap (λ b. check b (NoSuchList i) (check_lists vs (i + 1) (drop (i + 1) ks) None)) (lt-ltb (length vs + 1) (get_or ks i 0) g)
+  pub next_refused : (ks : List ℕ) (i : ℕ) (e : Fault) → i < length ks → ◌≡◌ {A = Result (Unit {0}) Fault} (Err e) (answered (check_lists vs i (get_or ks i 0 ∷ []) None) tt) →
+      check_lists vs i (drop i ks) None ≡ Some e
+  next_refused ks i e h p = next ks i h ∙ refused _ _ e p _
 
   pub no_next : (ks : List ℕ) (i : ℕ) → length ks ≤ i → check_lists vs i (drop i ks) None ≡ None
   no_next ks i h = ap (λ (l : List ℕ). check_lists vs i l None) (drop_all i ks h)

@@ -1,27 +1,21 @@
 -- Calls whose checks have passed take their steps, and the run goes on.
-use Rattle.std.proofs.Common.{◌≡◌, ℕ, ◌≤◌, Bool, List, [], ◌∷◌, None, Ok, Option, Result, ◌∙◌, subst}
+use Rattle.std.proofs.Common.{◌≡◌, ℕ, ◌≤◌, Bool, List, [], ◌∷◌, None, Option, Result, ◌∙◌}
 use Rattle.symbols.specs.Order.{Order}
 use Rattle.symbols.specs.Wire.{Travel}
 use Rattle.ledger.specs.Diagrams.{Good, Sound}
 use Rattle.ledger.specs.Ledger.{codes}
 use Rattle.ledger.specs.Operations.{takes, join}
-use Rattle.ledger.specs.declared.Vertex.{Vertex}
-use Rattle.memory.specs.declared.recall.Question.{Question}
 use Rattle.memory.specs.declared.work.Place.{Place}
 use Rattle.paths.specs.Changed.{changed}
 use Rattle.paths.specs.declared.changing.Change.{Change}
 use Rattle.paths.specs.declared.changing.Change.TheVariants.{Add, Remove}
 use Rattle.joining.specs.Recalled.{Right}
 use Rattle.store.specs.declared.fault.Fault.{Fault}
-use Rattle.store.specs.State.{State, answered, check_lists, check_code, check_work}
+use Rattle.store.specs.State.{State, check_lists, check_code, check_work}
 use Rattle.store.specs.Calls.{LaidDown, Changes, JoinedDown, Joins}
 use Rattle.store.specs.Run.{Run, Stands, adds, removes, joins}
-use Rattle.store.proofs.Checks.{passed, good_list, rule_passes, then_comes}
+use Rattle.store.proofs.Checks.{Passed, passed, good_list, rule_passes, then_comes}
 use Rattle.store.proofs.Runs.{run_stands}
-
--- a check has passed
-abbrev pub Passed : Option Fault → Type 0
-Passed faults = ◌≡◌ {A = Result (Unit {0}) Fault} (Ok tt) (answered faults tt)
 
 module _ {S : Type 0} (before : S → S → Bool) (order : Order before) (capacity : ℕ) (s s' : State S) {Ready Ready' : Type 0}
     (stands : (travel : Option (Travel S)) → Stands before travel capacity Ready s) (ready : Ready → Ready') where

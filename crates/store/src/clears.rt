@@ -15,12 +15,8 @@ impl<S: Symbol, B: Shelf<S>, R: RecallTable> Store<S, B, R> {
     fn check_keep(&self, keep: &[u32]) -> Result<(), Fault>
         ensures { result ≡ answered (check_lists self.now.vertices 0 keep.now None) tt }
     {
-        let used = self.used();
-        // By place: it is what the refusal tells.
         for (place, list) in keep.iter().enumerate() {
-            if *list > used + 1 {
-                return Err(Fault::NoSuchList { place });
-            }
+            self.check_list(place, *list)?;
         }
         Ok(())
     }

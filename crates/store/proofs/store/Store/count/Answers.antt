@@ -1,4 +1,4 @@
-use Rattle.std.proofs.Common.{None, ap, sym, ◌∙◌, rules}
+use Rattle.std.proofs.Common.{None, ap, ◌∙◌, rules}
 use Rattle.ledger.specs.Diagrams.{Good}
 use Rattle.store.specs.State.{Fitted}
 use Rattle.store.proofs.Checks.{passed, good_list, counted}
