@@ -25,7 +25,7 @@ pub enum Command<'a> {
     Receive { hex: &'a [u8] },
 }
 
-// The word that a command begins with.
+// The word that a command begins with, by a name of its own: the grammar tells the forms of lines by it.
 #[derive(Clone, Copy)]
 enum Word {
     Add,

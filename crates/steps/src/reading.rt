@@ -80,7 +80,7 @@ fn read_in_number(step: Step, b: u8) -> Option<Turn>
     })
 }
 
-// Keeps a step that has ended, if one has, and answers how many have: each of the two cases is said whole.
+// Keeps a step that has ended, if one has, and answers how many have. By cases: an `if let` says the count twice as well.
 fn keep(done: Option<Step>, count: usize, out: &mut [Step]) -> usize
     requires { count + 1 < 2 ^ 64 }
     ensures { Kept done count out.old result out.new }

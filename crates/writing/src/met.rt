@@ -34,7 +34,8 @@ impl Seen<'_> {
         link >= 2 && self.find(link).is_none()
     }
 
-    // A link's number in the dispatch: terminals stay, and the vertices that are met are numbered from 2 in their order.
+    // A link's number in the dispatch: terminals stay, and the vertices that are met are numbered from 2 in their order. Not as
+    // memory's `new_link`, which trusts every place.
     pub(crate) fn new_link(&self, link: u32) -> u32
         requires { link ≤ length self.now.places.now + 1 }
         ensures { NewLink self.now.places.now self.now.met link result }
