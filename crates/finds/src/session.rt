@@ -55,15 +55,17 @@ pub fn converse<S: TextSymbol + Clone>(
         let Some(line) = lines.next_line()? else {
             return lines.end();
         };
-        let n = serve(
+        // By cases: after a `map_err` nothing is told of the length.
+        let Ok(n) = serve(
             &mut store,
             line,
             &mut code,
             &mut work,
             &mut text,
             &mut answer,
-        )
-        .map_err(|_| Error::from(ErrorKind::WriteZero))?;
+        ) else {
+            return Err(Error::from(ErrorKind::WriteZero));
+        };
         lines.answer(&answer[0..n])?;
     }
     Err(Error::from(ErrorKind::TimedOut))
