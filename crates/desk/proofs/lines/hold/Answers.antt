@@ -3,7 +3,7 @@ use Rattle.std.proofs.Math.Seq.{take-append-add}
 use Rattle.std.proofs.lemmas.List.{length-take-le}
 use Rattle.std.proofs.lemmas.Slice.{take-put_mid, drop-put_mid}
 use Rattle.std.proofs.lemmas.Grind.{common_steps}
-use Rattle.desk.proofs.lines.Line.hold.Goals as goal
+use Rattle.desk.proofs.lines.hold.Goals as goal
 
 -- held bytes and more, cut where the room ends
 held_more : (old more part : List ℕ) (held n : ℕ) → held ≤ length old → n ≡ min (length more) (length old - held) → part ≡ take n more → take held old ++ part ≡ take (length old) (take held old ++ more)
