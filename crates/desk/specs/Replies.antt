@@ -33,8 +33,13 @@ reply_text text (Ok (Truth false)) = ended (codes "NO")
 reply_text text (Ok (Picked n)) = ended text
 reply_text text (Err fault) = ended (refused_text (line_refusal fault).number)
 
+-- the same where the refusal may be any, as it is told
+abbrev pub reply_or_refusal_text : List ℕ → Result Reply Refusal → List ℕ
+reply_or_refusal_text text (Ok reply) = reply_text text (Ok reply)
+reply_or_refusal_text text (Err refusal) = ended (refused_text refusal.number)
+
 -- the code that a reply picks from a symbol output
-abbrev pub picked : {S : Type 0} → List S → Result Reply LineFault → List S
+abbrev pub picked : {S E : Type 0} → List S → Result Reply E → List S
 picked out (Ok (Picked n)) = take n out
 picked out (Ok (a_list n)) = take 0 out
 picked out (Ok (Count n)) = take 0 out

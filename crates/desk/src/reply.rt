@@ -1,5 +1,5 @@
 // What a line is answered, before it is written, and its text.
-ghost use Rattle.desk.specs.Replies.{line_refusal, picked, reply_text, Put};
+ghost use Rattle.desk.specs.Replies.{line_refusal, picked, reply_or_refusal_text, reply_text, Put};
 ghost use Rattle.desk.specs.declared.reply.LineFault.TheVariants.{Text as text_fault, Store as store_fault};
 ghost use Rattle.std.specs.Prelude.{◌≡◌, take, Ok};
 ghost use Rattle.commands.specs.Answers.{ended};
@@ -75,8 +75,27 @@ fn write_picked<S: TextSymbol>(
     write_answer(Answer::Code(&text[0..n]), out)
 }
 
-// Writes the answer line of a reply to the start of `out`, and answers its length. Where the reply is a code, it stands in
-// `code`, and its text is made in `text`.
+// Writes the answer line of a reply, or of a refusal of any number, to the start of `out`, and answers its length. Where the
+// reply is a code, it stands in `code`, and its text is made in `text`.
+pub fn write_reply_or_refusal<S: TextSymbol>(
+    reply: Result<Reply, Refusal>,
+    code: &[S],
+    text: &mut [u8],
+    out: &mut [u8],
+) -> Result<usize, ShortOutput>
+    ensures { Put (reply_or_refusal_text (S.TextSymbol.text (picked code.now reply)) reply) text.old out.old result out.new }
+{
+    match reply {
+        Ok(Reply::List(n)) => write_answer(Answer::Number(u64::from(n)), out),
+        Ok(Reply::Count(n)) => write_answer(Answer::Number(n), out),
+        Ok(Reply::Truth(true)) => write_answer(Answer::Yes, out),
+        Ok(Reply::Truth(false)) => write_answer(Answer::No, out),
+        Ok(Reply::Picked(length)) => write_picked(length, code, text, out),
+        Err(refusal) => write_answer(Answer::Refused(refusal.number), out),
+    }
+}
+
+// The same of what a line is answered.
 pub fn write_reply<S: TextSymbol>(
     reply: Result<Reply, LineFault>,
     code: &[S],
@@ -85,12 +104,5 @@ pub fn write_reply<S: TextSymbol>(
 ) -> Result<usize, ShortOutput>
     ensures { Put (reply_text (S.TextSymbol.text (picked code.now reply)) reply) text.old out.old result out.new }
 {
-    match reply {
-        Ok(Reply::List(n)) => write_answer(Answer::Number(u64::from(n)), out),
-        Ok(Reply::Count(n)) => write_answer(Answer::Number(n), out),
-        Ok(Reply::Truth(true)) => write_answer(Answer::Yes, out),
-        Ok(Reply::Truth(false)) => write_answer(Answer::No, out),
-        Ok(Reply::Picked(length)) => write_picked(length, code, text, out),
-        Err(fault) => write_answer(Answer::Refused(Refusal::from(fault).number), out),
-    }
+    write_reply_or_refusal(reply.map_err(Refusal::from), code, text, out)
 }
