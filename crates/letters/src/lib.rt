@@ -4,7 +4,11 @@
 // and a slash are letters like any other, and nothing is trimmed. Reading looks at each byte twice, writing at each letter once.
 #![tactic(auto)]
 
-ghost use Rattle.std.specs.Prelude.{◌≡◌, ◌*◌, ◌%◌, ◌^◌, ◌↔◌, true, Ok, OnOk, nat_lt};
+ghost use Rattle.std.specs.Prelude.{◌≡◌, ◌*◌, ◌%◌, ◌^◌, ◌==◌, ◌↔◌, true, Ok, OnOk, nat_lt};
+ghost use Rattle.std.specs.Ordering.{on};
+ghost use Rattle.std.specs.Cmp.Rules.{comparing};
+ghost use Rattle.std.specs.Cmp as Keys;
+ghost use Rattle.std.proofs.Common.{rules};
 ghost use Rattle.letters.specs.Letters.{byte_of, letter_of, letter_travel};
 ghost use Rattle.letters.specs.Codes.{spelled, text_of};
 ghost use Rattle.letters.specs.Bytes.{one_byte, letter_laws};
@@ -12,7 +16,7 @@ ghost use Rattle.letters.specs.Spelling.{own_text};
 ghost use Rattle.symbols.proofs.Coded.{by_code};
 ghost use Rattle.texts.specs.Texts.{Begun, WrittenTo};
 
-use symbols::{ShortOutput, Symbol, SymbolFault, WireSymbol};
+use symbols::{ShortOutput, Symbol, SymbolFault, WireSymbol, same};
 use texts::{TextFault, TextSymbol, put};
 
 // The number of this kind.
@@ -21,7 +25,7 @@ const KIND: u8 = 1;
 // The bytes that a letter takes.
 const WIDTH: usize = 1;
 
-#[derive(Clone, Copy, Debug, PartialEq, Eq)]
+#[derive(Clone, Copy, Debug)]
 pub enum Letter {
     Space = b' ' as isize,
     Exclamation = b'!' as isize,
@@ -236,6 +240,24 @@ impl From<Letter> for u8 {
     fn from(letter: Letter) -> u8 {
         letter as u8
     }
+}
+
+// Written out: a derived `==` would tell its caller neither that the bytes are equal nor that the letters are.
+impl PartialEq for Letter {
+    ghost eq = { on byte_of ◌==◌ };
+
+    ghost laws = { Keys.partial_equiv_from_equiv (Prim.search (comparing, rules)) };
+
+    fn eq(&self, other: &Letter) -> bool
+        ensures value { result ≡ on byte_of ◌==◌ self.now other.now }
+        ensures same { (result ≡ true) ↔ (self.now ≡ other.now) }
+    {
+        same(*self, *other)
+    }
+}
+
+impl Eq for Letter {
+    ghost laws = { Prim.search (comparing, rules) };
 }
 
 // Whether two letters are one and the same.
