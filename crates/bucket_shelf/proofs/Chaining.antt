@@ -1,7 +1,7 @@
 -- Chains with a vertex more or less.
 use Rattle.std.proofs.Common.{◌≡◌, ℕ, ◌+◌, ◌-◌, ◌<◌, ◌≤◌, List, length, get_or, set, replicate, Some, sym, refl, ap, ◌∙◌, subst, ⊎_elim, arith}
 use Rattle.std.specs.List.{slice_get}
-use Rattle.std.proofs.lemmas.List.{length-set, length-map, length-replicate, get_or-replicate, get_or-set_same, get_or-set_other, map-set}
+use Rattle.std.proofs.lemmas.List.{length-set, length-map, length-replicate, get_or-replicate, get_or_past, get_or-set_same, get_or-set_other, map-set}
 use Rattle.std.proofs.lemmas.Bool.{cases_lt, cases_eq}
 use Rattle.ledger.specs.declared.Vertex.{Vertex}
 use Rattle.bucket_shelf.specs.declared.Entry.{Entry}
@@ -66,17 +66,19 @@ module _ {S : Type 0} (f : S → ℕ) where
         nexts = λ j e l r. rw (← p, ← q) (x j e l r);
       }
 
-  -- no head, no vertex: chains of nothing
-  pub chained_none : (es : List (Entry S)) (n : ℕ) → Chained f es (replicate n 0) 0
-  chained_none es n =
-      let zeros : length (replicate {A = ℕ} n 0) ≡ n = length-replicate n 0 in
-      let none : (b : ℕ) → b < n → ◌≡◌ {A = ℕ} (get_or (replicate n 0) b 0) 0 = λ b l. get_or-replicate n b 0 0 l in
+  -- no vertex and no head: chains of nothing
+  pub chained_none : (es : List (Entry S)) (hs : List ℕ) → ((b : ℕ) → get_or hs b 0 ≡ 0) → Chained f es hs 0
+  chained_none es hs h =
       record {
-        heads = λ b l.
-            let z = none b (omega arith) in
-            record { below = omega arith; above = λ k w i. absurd (omega arith); there = λ w i. absurd (omega arith) };
+        heads = λ b l. record { below = omega (arith, h b); above = λ k w i. absurd (omega arith); there = λ w i. absurd (omega (arith, h b)) };
         nexts = λ j e l. absurd (omega arith);
       }
+
+  -- the same of heads that are all 0
+  pub chained_zeros : (es : List (Entry S)) (n : ℕ) → Chained f es (replicate n 0) 0
+  chained_zeros es n =
+      chained_none es (replicate n 0)
+      (λ b. ⊎_elim (λ l. get_or-replicate n b 0 0 l) (λ l. get_or_past (replicate n 0) b 0 (omega (arith, length-replicate {A = ℕ} n 0))) (cases_lt b n))
 
   -- a vertex more, at the top of its chain
   pub chained_link : (es : List (Entry S)) (hs : List ℕ) (u b : ℕ) (e : Entry S) → e.next ≡ get_or hs b 0 → u < length es → b ≡ bucket f (length hs) e.vertex → b < length hs →

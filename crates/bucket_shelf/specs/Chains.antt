@@ -28,13 +28,21 @@ pub record Chained {S : Type 0} (scatter : S → ℕ) (es : List (Entry S)) (hs 
   pub nexts : (j : ℕ) (e : Entry S) → j < u → slice_get es j ≡ Some e →
       Top (bucket scatter (length hs)) (vertices_in es) j (bucket scatter (length hs) e.vertex) e.next
 
--- whether there are heads or none, there is a record for each vertex
-pub room_records : {S : Type 0} (es : List (Entry S)) (hs : List ℕ) → (room es hs ≤ length es) × (room es hs ≤ 1000000)
-room_records es hs =
-    elim (length hs == 0) as (λ b. (cond b 0 (min (length es) 1000000) ≤ length es) × (cond b 0 (min (length es) 1000000) ≤ 1000000)) [
+-- the room that h heads and l records make
+pub room_under : (h l : ℕ) → (cond (h == 0) 0 (min l 1000000) ≤ l) × (cond (h == 0) 0 (min l 1000000) ≤ 1000000)
+room_under h l =
+    elim (h == 0) as (λ b. (cond b 0 (min l 1000000) ≤ l) × (cond b 0 (min l 1000000) ≤ 1000000)) [
       | true ↦ (omega arith, omega arith)
       | false ↦ (omega arith, omega arith)
     ]
 
+-- whether there are heads or none, there is a record for each vertex
+pub room_records : {S : Type 0} (es : List (Entry S)) (hs : List ℕ) → (room es hs ≤ length es) × (room es hs ≤ 1000000)
+room_records es hs = room_under (length hs) (length es)
+
 pub room_bounds : {S : Type 0} (used : ℕ) (es : List (Entry S)) (hs : List ℕ) → used ≤ room es hs → (length (take used (vertices_in es)) ≤ room es hs) × (room es hs ≤ 1000000)
 room_bounds used es hs h = (omega (arith, length-take used (vertices_in es)), (room_records es hs).1)
+
+-- the same of any `used`, as far as the room goes
+pub room_bounds_cut : {S : Type 0} (used : ℕ) (es : List (Entry S)) (hs : List ℕ) → (length (take (min used (room es hs)) (vertices_in es)) ≤ room es hs) × (room es hs ≤ 1000000)
+room_bounds_cut used es hs = room_bounds (min used (room es hs)) es hs (omega arith)

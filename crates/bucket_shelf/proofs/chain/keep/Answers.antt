@@ -8,7 +8,7 @@ use Rattle.memory.proofs.Gathers.{mark_here}
 use Rattle.memory.proofs.Keeping.{Keeps, keeps_none, keeps_no, keeps_yes, keeps_all}
 use Rattle.bucket_shelf.specs.Chains.{vertices_in, room_records}
 use Rattle.bucket_shelf.proofs.Indices.{length_vertices, get_or_vertices}
-use Rattle.bucket_shelf.proofs.Chaining.{chained_none}
+use Rattle.bucket_shelf.proofs.Chaining.{chained_zeros}
 use Rattle.bucket_shelf.proofs.chain.keep.Goals as goal
 use Rattle.bucket_shelf.proofs.chain.keep.Goals.{then-is_marked, else-is_marked}
 
@@ -16,7 +16,7 @@ pub loop-i-init : goal.loop-i-init
 loop-i-init g c =
     let empty : c.fill.new.self ≡ replicate (length c.args.heads.now) 0 = c.fill.ensures.after (search rules) in (
       keeps_none (noted_vertex c.args.marks.now) (marks_in c.args.marks.now) (vertices_in c.args.records.now),
-      rw empty (chained_none g.S.Symbol.scatter c.args.records.now (length c.args.heads.now)),
+      rw empty (chained_zeros g.S.Symbol.scatter c.args.records.now (length c.args.heads.now)),
     )
 
 pub loop-i-preserved : goal.loop-i-preserved
