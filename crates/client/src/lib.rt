@@ -2,7 +2,7 @@
 // anything.
 #![tactic(auto)]
 
-ghost use Rattle.std.specs.Prelude.{◌≡◌};
+ghost use Rattle.std.specs.Prelude.{◌≡◌, ◌+◌, length};
 
 use memory::recall::RecallTable;
 use memory::shelf::Shelf;
@@ -25,4 +25,11 @@ pub fn same_bag_twice<S: Symbol, B: Shelf<S> + Drop, R: RecallTable + Drop>(
     let first = store.add(0, code, work);
     let second = store.add(0, code, work);
     (first, second)
+}
+
+// How many vertices more there is room for. No store has more vertices than it may have, whatever led to it.
+pub fn room_left<S: Symbol, B: Shelf<S>, R: RecallTable>(store: &Store<S, B, R>) -> u32
+    ensures { length store.now.vertices + result ≡ store.now.capacity }
+{
+    store.capacity() - store.used()
 }

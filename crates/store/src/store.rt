@@ -57,6 +57,7 @@ impl<S: Symbol, B: Shelf<S>, R: RecallTable> Store<S, B, R> {
     pub fn capacity(&self) -> u32
         ensures value { result ≡ self.now.capacity }
         ensures few { result ≤ 1000000 }
+        ensures room { length self.now.vertices ≤ result }
     {
         self.shelf.capacity()
     }
@@ -65,6 +66,7 @@ impl<S: Symbol, B: Shelf<S>, R: RecallTable> Store<S, B, R> {
     pub fn used(&self) -> u32
         ensures value { result ≡ length self.now.vertices }
         ensures few { result ≤ 1000000 }
+        ensures within { result ≤ self.now.capacity }
     {
         self.shelf.used()
     }
