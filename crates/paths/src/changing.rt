@@ -61,10 +61,12 @@ fn step<S: Symbol, B: Shelf<S>>(
         code.get(spot)?;
         return Some((Frame::One { zero: at, spot }, 0, spot + 1));
     };
+    // The label first: a vertex that the path passes by costs one comparison.
     match code.get(spot) {
+        None => Some((Frame::Zero { vertex: at }, zero, spot)),
+        Some(symbol) if label.before(*symbol) => Some((Frame::Zero { vertex: at }, zero, spot)),
         Some(symbol) if symbol.before(label) => Some((Frame::One { zero: at, spot }, 0, spot + 1)),
-        Some(symbol) if !label.before(*symbol) => Some((Frame::One { zero, spot }, one, spot + 1)),
-        _ => Some((Frame::Zero { vertex: at }, zero, spot)),
+        Some(_) => Some((Frame::One { zero, spot }, one, spot + 1)),
     }
 }
 
