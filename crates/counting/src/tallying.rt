@@ -48,7 +48,10 @@ impl From<Place> for Tally {
 pub(crate) fn tally_at(work: &[Place], n: u32) -> Tally
     ensures { result ≡ held (slice_index_or work.now n vacant) }
 {
-    Tally::from(work.get(n as usize).copied().unwrap_or_default())
+    match work.get(n as usize) {
+        Some(place) => Tally::from(*place),
+        None => Tally::from(Place::default()),
+    }
 }
 
 // A sum of two counts.
