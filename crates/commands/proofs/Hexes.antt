@@ -1,12 +1,27 @@
 -- Hexadecimal text, digit by digit and pair by pair.
-use Rattle.std.proofs.Common.{◌≡◌, ℕ, ◌+◌, ◌-◌, ◌*◌, ◌/◌, ◌%◌, ◌<◌, Bool, true, false, ◌&&◌, eqb, leb, List, [], ◌∷◌, ◌++◌, length, get_or, take, drop, set, sym, refl, ap, ◌∙◌, subst, arith}
+use Rattle.std.proofs.Common.{◌≡◌, ℕ, ◌+◌, ◌-◌, ◌*◌, ◌/◌, ◌%◌, ◌<◌, ◌≤◌, Bool, true, false, ◌&&◌, eqb, leb, List, [], ◌∷◌, ◌++◌, length, get_or, take, drop, set, sym, refl, ap, ◌∙◌, subst, arith}
 use Rattle.std.proofs.lemmas.Nat.{div-mul-add, mod-mul-add}
 use Rattle.std.proofs.ByRecursion.{All-push}
-use Rattle.std.proofs.lemmas.List.{append_assoc, take_more, take_more_set, drop_more, drop-set-lt, drop-drop, set_at, length-append, length-take-le}
+use Rattle.std.proofs.lemmas.List.{at_drop_more, at_drop_all, append_assoc, take_more, take_more_set, drop_more, drop-set-lt, drop-drop, set_at, length-append, length-take-le}
 use Rattle.std.proofs.lemmas.Bool.{and_parts, eqb-true, eq-eqb}
 use Rattle.std.proofs.lemmas.Bool.Decides.{nat_tests}
 use Rattle.commands.specs.Hexadecimals.{digit, hexadecimal, Bytes, Writes, Hexadecimal}
 use Rattle.commands.specs.Reading.{is_digit, all_digits, is_text}
+
+-- the test of a text, as a loop goes over it
+module _ (bs : List ℕ) (i : ℕ) where
+  pub text_stops : i < length bs → all_digits bs ≡ all_digits (drop i bs) → is_digit (get_or bs i 0) ≡ false → all_digits bs ≡ false
+  text_stops l h e =
+      let here : all_digits (drop i bs) ≡ (is_digit (get_or bs i 0) && all_digits (drop (i + 1) bs)) = at_drop_more all_digits bs i 0 l in
+      h ∙ here ∙ ap (λ t. t && all_digits (drop (i + 1) bs)) e
+
+  pub text_more : i < length bs → all_digits bs ≡ all_digits (drop i bs) → is_digit (get_or bs i 0) ≡ true → all_digits bs ≡ all_digits (drop (i + 1) bs)
+  text_more l h e =
+      let here : all_digits (drop i bs) ≡ (is_digit (get_or bs i 0) && all_digits (drop (i + 1) bs)) = at_drop_more all_digits bs i 0 l in
+      h ∙ here ∙ ap (λ t. t && all_digits (drop (i + 1) bs)) e
+
+  pub text_ends : length bs ≤ i → all_digits bs ≡ all_digits (drop i bs) → all_digits bs ≡ true
+  text_ends l h = h ∙ at_drop_all all_digits bs i l
 
 -- the number that a digit stands for
 digit_below : (b : ℕ) → is_digit b ≡ true → (v : ℕ) × (v < 16) × (digit v ≡ b)

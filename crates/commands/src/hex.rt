@@ -26,7 +26,13 @@ fn is_digit(b: u8) -> bool
 fn has_only_digits(text: &[u8]) -> bool
     ensures { result ≡ all_digits text.now }
 {
-    text.iter().all(|b| is_digit(*b))
+    // By hand: `all` of the text's bytes takes nearly twice the time.
+    for b in text {
+        if !is_digit(*b) {
+            return false;
+        }
+    }
+    true
 }
 
 // Whether a text writes bytes: an even number of digits.
