@@ -6,3 +6,4 @@ mod Stacking
 pub mod Reaching
 pub mod Spreading
 pub mod Standing
+pub mod Tallying

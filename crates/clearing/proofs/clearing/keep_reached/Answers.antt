@@ -12,7 +12,7 @@ returns-then-gather-clause-answer g c = λ formed good.
     let marked = c.mark_reached.new.marks in
     let all : take (length c.args.marks.now) vs ≡ vs = take_all (length c.args.marks.now) vs (omega (arith, c.requires)) in (
       marks_in marked,
-      subst (λ ws. Keeps ws c.args.keep.now (marks_in marked)) all (c.mark_reached.ensures formed).1,
+      subst (λ ws. Keeps ws c.args.keep.now (marks_in marked)) all (c.mark_reached.ensures.reached formed).1,
       c.gather.ensures.vertices ∙ cond-true c.gather.result _ _ c.if-gather.true,
       c.renumber_each.ensures ∙
           all_noted marked c.gather.new.marks c.args.keep.now c.gather.auto.marks (c.gather.ensures.numbers c.if-gather.true)

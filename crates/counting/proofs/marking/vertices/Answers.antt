@@ -11,5 +11,5 @@ returns g c = λ formed.
     let m = length (take c.min-places.result c.args.work.now) in
     let there : m ≡ min (c.args.list - 1) (length vs) =
     omega (arith, length-take-le c.min-places.result c.args.work.now (omega arith)) in
-    subst⁻¹ (Counts (Reached vs c.args.list)) c.marked.ensures
-    (marks_count g.S.Symbol.before vs formed m (omega (arith, there)) c.args.list there c.mark_reached.new.marks (c.mark_reached.ensures formed).1)
+    subst⁻¹ (Counts (Reached vs c.args.list)) c.mark_reached.ensures.count
+    (marks_count g.S.Symbol.before vs formed m (omega (arith, there)) c.args.list there c.mark_reached.new.marks (c.mark_reached.ensures.reached formed).1)

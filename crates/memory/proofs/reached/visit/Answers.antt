@@ -4,8 +4,8 @@ use Rattle.memory.specs.Spreading.{with_mark}
 use Rattle.memory.proofs.Looks.{looked}
 use Rattle.memory.proofs.reached.visit.Goals as goal
 
-pub returns-in-Some : goal.returns-in-Some
-returns-in-Some g c = λ formed.
+pub returns-in-Some-clause-spreads : goal.returns-in-Some-clause-spreads
+returns-in-Some-clause-spreads g c = λ formed.
     let l = looked (g.B.Shelf.vertices c.args.shelf.now) c.args.n _ (c.in-Some.ensures.value formed) in
     let zero_is : c.in-Some.zero ≡ l.0.zero = ap (λ (t : g.row.S.Denot × ℕ × ℕ). t.1) l.2 in
     let one_is : c.in-Some.one ≡ l.0.one = ap (λ (t : g.row.S.Denot × ℕ × ℕ). t.2) l.2 in
