@@ -16,7 +16,7 @@ pub many_marks : (ps : List Place) → count_by is_mark ps ≡ many (marks_in ps
 many_marks [] = refl
 many_marks (p ∷ ps) =
     sum_by-cons (λ (q : Place). cond (is_mark q) 1 0) p ps ∙ ap (λ n. cond (is_mark p) 1 0 + n) (many_marks ps) ∙
-        sym (sum_by-cons (λ (b : Bool). cond b 1 0) (is_mark p) (marks_in ps))
+    sym (sum_by-cons (λ (b : Bool). cond b 1 0) (is_mark p) (marks_in ps))
 
 -- a mark below a number
 pub mark_below : (ms : List Bool) (n k : ℕ) → k < n → drop (n - 2) (with_mark ms k) ≡ drop (n - 2) ms

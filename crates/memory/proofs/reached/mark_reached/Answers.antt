@@ -12,8 +12,7 @@ pub loop-n-init : goal.loop-n-init
 loop-n-init g c =
     let m = length c.args.marks.now in
     let end = c.mark_each.new.marks in
-    let past : length (marks_in end) ≤ length end + 1 - 1 = omega (arith, length-map end is_mark) in
-    (
+    let past : length (marks_in end) ≤ length end + 1 - 1 = omega (arith, length-map end is_mark) in (
       sym (ap many (drop_all (length end + 1 - 1) (marks_in end) past)),
       λ formed.
           let front = take m (g.B.Shelf.vertices c.args.shelf.now) in
@@ -36,11 +35,10 @@ loop-n-preserved g c =
     let long : length marks ≡ m = omega (arith, length-map c.loop-n.marks is_mark, c.loop-n.auto.marks, c.mark_each.auto.marks, c.fill.ensures.len) in
     let twice : c.loop-n.n - 1 - 1 ≡ c.loop-n.n - 2 = omega arith in
     let more = many_more marks c.loop-n.n c.visit.result c.loop-n-test.true (omega (arith, long, inside)) c.visit.ensures.marked in
-    let here : c.from-count.result ≡ one_if c.visit.result = c.from-count.ensures ∙ one_byte c.visit.result in
-    (
+    let here : c.from-count.result ≡ one_if c.visit.result = c.from-count.ensures ∙ one_byte c.visit.result in (
       subst⁻¹ (λ k. c.loop-n.count + c.from-count.result ≡ many (drop k (marks_in c.visit.new.marks))) twice
-      (subst⁻¹ (λ ms. c.loop-n.count + c.from-count.result ≡ many ms) c.visit.ensures.above
-      (omega (arith, more, here, c.loop-n.invariant.0))),
+          (subst⁻¹ (λ ms. c.loop-n.count + c.from-count.result ≡ many ms) c.visit.ensures.above
+          (omega (arith, more, here, c.loop-n.invariant.0))),
       λ formed.
           let vs = g.B.Shelf.vertices c.args.shelf.now in
           let front = take m vs in
@@ -51,16 +49,16 @@ loop-n-preserved g c =
 
 pub returns : goal.returns
 returns g c = record {
-      count =
-          let end : c.loop-n.n - 1 ≡ 0 = omega (arith, c.loop-n-test.false) in
-          c.loop-n.invariant.0 ∙ ap (λ k. many (drop k (marks_in c.loop-n.marks))) end ∙ sym (many_marks c.loop-n.marks);
-      reached = λ formed.
-          let vs = g.B.Shelf.vertices c.args.shelf.now in
-          let m = length c.args.marks.now in
-          let front = take m vs in
-          let formed_there = formed_front g.S.Symbol.before vs m c.requires formed in
-          let end = spread_on front c.args.lists.now (marks_in c.loop-n.marks) (c.loop-n.n + 1) 2 (omega (arith, c.loop-n-test.false)) (c.loop-n.invariant.1 formed) in (
-            spread_gatherable g.S.Symbol.before front formed_there c.args.lists.now (marks_in c.loop-n.marks) end,
-            spread_keeps g.S.Symbol.before front formed_there c.args.lists.now (marks_in c.loop-n.marks) end,
-          );
-    }
+  count =
+      let end : c.loop-n.n - 1 ≡ 0 = omega (arith, c.loop-n-test.false) in
+      c.loop-n.invariant.0 ∙ ap (λ k. many (drop k (marks_in c.loop-n.marks))) end ∙ sym (many_marks c.loop-n.marks);
+  reached = λ formed.
+      let vs = g.B.Shelf.vertices c.args.shelf.now in
+      let m = length c.args.marks.now in
+      let front = take m vs in
+      let formed_there = formed_front g.S.Symbol.before vs m c.requires formed in
+      let end = spread_on front c.args.lists.now (marks_in c.loop-n.marks) (c.loop-n.n + 1) 2 (omega (arith, c.loop-n-test.false)) (c.loop-n.invariant.1 formed) in (
+        spread_gatherable g.S.Symbol.before front formed_there c.args.lists.now (marks_in c.loop-n.marks) end,
+        spread_keeps g.S.Symbol.before front formed_there c.args.lists.now (marks_in c.loop-n.marks) end,
+      );
+}
