@@ -11,7 +11,7 @@ use Rattle.texts.specs.Texts.{Starts}
 use Rattle.desk.specs.declared.reply.Reply.{Reply}
 use Rattle.desk.specs.declared.reply.Reply.TheVariants.{List as a_list, Count, Truth, Picked}
 use Rattle.desk.specs.declared.reply.LineFault.{LineFault}
-use Rattle.desk.specs.declared.reply.LineFault.TheVariants.{Unreadable, Text, Store}
+use Rattle.desk.specs.declared.reply.LineFault.TheVariants.{Unreadable, Text, Store, Refused}
 
 -- what a call answers, as a reply of this kind, or why the store refuses it
 abbrev pub told : {A : Type 0} → (A → Reply) → Result A Fault → Result Reply LineFault
@@ -23,6 +23,7 @@ abbrev pub line_refusal : LineFault → Refusal
 line_refusal Unreadable = plain 18
 line_refusal (Text fault) = texts.refusal fault
 line_refusal (Store fault) = calls.refusal fault
+line_refusal (Refused number) = plain number
 
 -- the answer line of a reply, where a picked code has this text; or that of the refusal, by its number
 abbrev pub reply_text : List ℕ → Result Reply LineFault → List ℕ

@@ -3,6 +3,7 @@ ghost use Rattle.desk.specs.Replies.{line_refusal, picked, reply_or_refusal_text
 ghost use Rattle.desk.specs.declared.reply.LineFault.TheVariants.{Text as text_fault, Store as store_fault};
 ghost use Rattle.std.specs.Prelude.{◌≡◌, take, Ok};
 ghost use Rattle.commands.specs.Answers.{ended};
+ghost use Rattle.symbols.specs.Refusals.{plain};
 
 use commands::answer::{Answer, write_answer};
 use store::fault::Fault;
@@ -20,12 +21,15 @@ pub enum Reply {
     Picked(usize),
 }
 
-// Why a line has no reply: it says nothing that is served, its text spells no code, or the store refuses the call.
+// Why a line has no reply: it says nothing that is served, its text spells no code, or the store refuses the call; or a
+// refusal of any number, which no line is given here, but which is written like the others.
 #[derive(Clone, Copy, Debug, PartialEq, Eq)]
 pub enum LineFault {
     Unreadable,
     Text(TextFault),
     Store(Fault),
+    // A refusal, by its number.
+    Refused(u8),
 }
 
 impl From<TextFault> for LineFault {
@@ -44,18 +48,26 @@ impl From<Fault> for LineFault {
     }
 }
 
+// A refusal that carries nothing but its number.
+fn refused(number: u8) -> Refusal
+    ensures { result ≡ plain number }
+{
+    Refusal {
+        number,
+        detail: 0,
+        symbol: None,
+    }
+}
+
 impl From<LineFault> for Refusal {
     ghost from_gives = { λ fault r. r ≡ line_refusal fault };
 
     fn from(fault: LineFault) -> Refusal {
         match fault {
-            LineFault::Unreadable => Refusal {
-                number: 18,
-                detail: 0,
-                symbol: None,
-            },
+            LineFault::Unreadable => refused(18),
             LineFault::Text(fault) => Refusal::from(fault),
             LineFault::Store(fault) => Refusal::from(fault),
+            LineFault::Refused(number) => refused(number),
         }
     }
 }
