@@ -1,5 +1,5 @@
 -- What the result of a call is answered, the refusal of a line, and the text of a reply.
-use Rattle.std.specs.Prelude.{◌≡◌, ℕ, ◌<◌, true, false, ◌⊎◌, List, length, take, Ok, Err, codes, decimal, Result}
+use Rattle.std.specs.Prelude.{◌≡◌, ◌≢◌, ℕ, ◌<◌, true, false, ◌⊎◌, List, length, take, Ok, Err, codes, decimal, Result}
 use Rattle.symbols.specs.declared.Refusal.{Refusal}
 use Rattle.symbols.specs.declared.ShortOutput.{ShortOutput}
 use Rattle.symbols.specs.Refusals.{plain}
@@ -18,7 +18,11 @@ abbrev pub told : {A : Type 0} → (A → Reply) → Result A Fault → Result R
 told kind (Ok a) = Ok (kind a)
 told kind (Err fault) = Err (Store fault)
 
--- the refusal of a line
+-- what a line is answered: never a refusal that is a number alone
+abbrev pub Reasoned : Result Reply LineFault → Type 0
+Reasoned reply = (number : ℕ) → reply ≢ Err (Refused number)
+
+-- the refusal of a line, or of a number alone
 abbrev pub line_refusal : LineFault → Refusal
 line_refusal Unreadable = plain 18
 line_refusal (Text fault) = texts.refusal fault

@@ -21,8 +21,8 @@ pub enum Reply {
     Picked(usize),
 }
 
-// Why a line has no reply: it says nothing that is served, its text spells no code, or the store refuses the call; or a
-// refusal of any number, which no line is given here, but which is written like the others.
+// Why a line has no reply: it says nothing that is served, its text spells no code, or the store refuses the call. A refusal of
+// which only the number is known is written like these, but no line is answered by it.
 #[derive(Clone, Copy, Debug, PartialEq, Eq)]
 pub enum LineFault {
     Unreadable,
@@ -107,7 +107,7 @@ pub fn write_reply_or_refusal<S: TextSymbol>(
     }
 }
 
-// The same of what a line is answered.
+// The same of what a line is answered, or of a refusal by its number alone.
 pub fn write_reply<S: TextSymbol>(
     reply: Result<Reply, LineFault>,
     code: &[S],

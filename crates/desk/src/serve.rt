@@ -1,11 +1,11 @@
 // Serving a line: it is read as a command, the command is called on the store, and the result is written. Room for a code is
-// lent, so what is answered with room for 65 symbols stands in each clause.
+// lent, so what is answered with room for 65 symbols stands in each clause; with less room too a refusal says why.
 ghost use Rattle.std.specs.Prelude.{◌≡◌, ◌≤◌, length, Result};
 ghost use Rattle.commands.specs.Meaning.{meaning};
 ghost use Rattle.store.specs.State.{seen};
 ghost use Rattle.desk.specs.declared.reply.Reply.{Reply};
 ghost use Rattle.desk.specs.declared.reply.LineFault.{LineFault};
-ghost use Rattle.desk.specs.Replies.{picked, reply_text, Put};
+ghost use Rattle.desk.specs.Replies.{picked, reply_text, Put, Reasoned};
 ghost use Rattle.desk.specs.Desk.{Fitted, Calls, Serves};
 
 use crate::reply::{LineFault, Reply, write_reply};
@@ -34,6 +34,7 @@ fn perform<S: TextSymbol, B: Shelf<S>, R: RecallTable>(
     work: &mut [Place],
 ) -> Result<Reply, LineFault>
     ensures answer { 65 ≤ length code.old → Calls S.Symbol.before S.TextSymbol.spells store.old.capacity (seen R.RecallTable.table store.old) work.old code.old (meaning command.entry) result (seen R.RecallTable.table store.new) code.new }
+    ensures reasoned { Reasoned result }
     ensures size { store.new.capacity ≡ store.old.capacity }
 {
     // By cases: a command is what a line says.
@@ -70,6 +71,7 @@ fn reply_to<S: TextSymbol, B: Shelf<S>, R: RecallTable>(
     work: &mut [Place],
 ) -> Result<Reply, LineFault>
     ensures answer { 65 ≤ length code.old → Serves S.Symbol.before S.TextSymbol.spells store.old.capacity (seen R.RecallTable.table store.old) work.old code.old line.now result (seen R.RecallTable.table store.new) code.new }
+    ensures reasoned { Reasoned result }
     ensures size { store.new.capacity ≡ store.old.capacity }
 {
     let command = read_command(line).ok_or(LineFault::Unreadable)?;
@@ -86,7 +88,7 @@ pub fn serve<S: TextSymbol, B: Shelf<S>, R: RecallTable>(
     text: &mut [u8],
     out: &mut [u8],
 ) -> Result<usize, ShortOutput>
-    ensures answer { (reply : Result Reply LineFault) × Put (reply_text (S.TextSymbol.text (picked code.new reply)) reply) text.old out.old result out.new × (65 ≤ length code.old → Serves S.Symbol.before S.TextSymbol.spells store.old.capacity (seen R.RecallTable.table store.old) work.old code.old line.now reply (seen R.RecallTable.table store.new) code.new) }
+    ensures answer { (reply : Result Reply LineFault) × Reasoned reply × Put (reply_text (S.TextSymbol.text (picked code.new reply)) reply) text.old out.old result out.new × (65 ≤ length code.old → Serves S.Symbol.before S.TextSymbol.spells store.old.capacity (seen R.RecallTable.table store.old) work.old code.old line.now reply (seen R.RecallTable.table store.new) code.new) }
     ensures size { store.new.capacity ≡ store.old.capacity }
 {
     let reply = reply_to(store, line, code, work);
