@@ -116,7 +116,8 @@ impl Symbol for Step {
     ghost ordered = { step_order };
 
     fn before(self, other: Step) -> bool {
-        self < other
+        // By the unit's byte: the derived `<` looks both units up in a table.
+        (u8::from(self.unit), self.number) < (u8::from(other.unit), other.number)
     }
 
     fn scatter(self) -> u32 {
